@@ -75,7 +75,7 @@ pub record HeaderHolds (bytes : List ℕ) (header : Header) : Type 0 where
   pub moments : AllByRecursion HasMoments header.stripes
   pub bytes_are : bytes ≡ header_bytes header
 
--- What a call answers is what reading gives: a header, or the first offset at which the bytes are malformed; or memory was wanted.
+-- What a call answers is what reading gives: a header, or the first offset at which the bytes are malformed; or memory ran out.
 abbrev pub ReadsHeader : Result Header FormatError → Result Header ℕ → Type 0
 ReadsHeader (Ok header) read = read ≡ Ok header
 ReadsHeader (Err (NotBlock at)) read = read ≡ Err at

@@ -1,4 +1,8 @@
-//! Laws of whole blocks: no bytes stand for two lists of rows, and one information describes them.
+//! Theorems about whole blocks: no bytes stand for two lists of rows, and one information describes them.
+//!
+//! Each function has an empty body: its contract is the statement, and its proof stands in `proofs/block_laws/`.
+//! Proofs of `compactor` and `stored_history` cite the lemmas. Only `compactor` calls one, `a_block_has_rows`, to have
+//! its contract.
 
 ghost use Rattle.std.specs.Prelude.{◌≡◌, ℕ, [], List};
 ghost use Rattle.span_types.specs.declared.spans.Row.{Row};

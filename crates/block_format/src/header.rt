@@ -1,4 +1,5 @@
-//! The header of a block, and writing it.
+//! The header of a block, and writing it: parts to whole pages of bytes. `block_build` calls it once the stripes are
+//! written, when their pages and rows are known.
 
 ghost use Rattle.std.specs.Prelude.{◌≡◌, ◌++◌, ◌⊎◌, ◌<◌, ◌≤◌, ◌^◌, IfOk, OnOk, length};
 ghost use Rattle.std.specs.List.{AllByRecursion, flat_map};

@@ -1,4 +1,8 @@
-//! Laws of the header: its bytes stand for one header, and reading gives it.
+//! Theorems about headers: their bytes stand for one header, and reading gives it.
+//!
+//! Each function has an empty body: its contract is the statement, and its proof stands in `proofs/header_laws/`.
+//! `block_read` and `block_build` call one each, to have its contract; proofs of `block_read` and `compactor` cite the
+//! lemmas.
 
 ghost use Rattle.std.specs.Prelude.{◌≡◌, ◌*◌, ℕ, List, Ok, length};
 ghost use Rattle.byte_fields.specs.Reading.{AreBytes};

@@ -1,4 +1,5 @@
-//! Reading the header of a block.
+//! Reading the header of a block: bytes to parts, or the first offset at which they are malformed. Reading a whole
+//! block begins with it.
 
 ghost use Rattle.std.specs.Prelude.{◌≡◌, ◌+◌, ◌^◌, ◌≤◌, [], IfOk, IsTrue, false};
 ghost use Rattle.span_fields.specs.Breaks.{Answers, Gives, break_of};
@@ -31,8 +32,8 @@ struct Front {
     bloom_pages: u32,
 }
 
-/// The header that bytes are: its pages whole, and nothing after them. The list of stripes grows with the entries that are
-/// there, so no number in the bytes takes memory.
+/// The header that bytes are: its pages whole, and nothing after them. The list of stripes grows with the entries that
+/// are there, so no number in the bytes takes memory.
 pub fn read_header(alloc: Global, bytes: &[u8]) -> Result<Header, FormatError>
     ensures { ReadsHeader result (header_at bytes.now) }
 {
@@ -166,7 +167,7 @@ fn stripe_pages(reader: &mut Reader, page: u64) -> Result<u64, Break>
     Ok(pages)
 }
 
-/// The rows of a stripe.
+/// How many rows a stripe has: 256, but for the last one, which may have fewer.
 #[tactic(auto, unfolding(crate::specs::HeaderReadings::passing))]
 fn stripe_rows(reader: &mut Reader, is_last: bool) -> Result<u32, Break>
     ensures gives { Gives (λ x. x) result reader.new (passing (has_rows is_last) number64_at reader.old) }

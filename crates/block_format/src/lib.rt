@@ -1,4 +1,9 @@
 //! Columnar blocks: their headers, written and read, and what the bytes of a whole block stand for.
+//!
+//! `header` writes, header to bytes; `header_reading` reads, bytes to header. `block_build` and `block_read` call
+//! them. `header_laws` and `block_laws` hold theorems.
+//!
+//! What the bytes of a block stand for is defined in `specs/Blocks.antt`; `docs/BLOCK-FORMAT.md` has it in words.
 #![tactic(auto)]
 
 mod block_laws;

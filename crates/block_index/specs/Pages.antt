@@ -1,4 +1,4 @@
--- Pages of 4,096 bytes.
+-- Pages of 4,096 bytes: the bytes of many, and one among bytes. Index and filters are such pages.
 use Rattle.std.specs.Prelude.{ℕ, zero, suc, ◌*◌, List, [], ◌++◌, take, drop}
 
 -- the first so many pages, one after the other

@@ -17,8 +17,8 @@ const TRACES_A_PAGE: usize = 2048;
 
 /// The Bloom filters of a block, in whole pages: one page for each 2,048 traces that its rows have, or part of that.
 ///
-/// `ids` has the trace ids of the block's rows in the order of the rows, so that those of one trace stand together. Each
-/// trace sets four bits in one page. The bytes take memory, and so does a list of the traces.
+/// `ids` has the trace ids of the block's rows in the order of the rows, so that those of one trace stand together.
+/// Each trace sets four bits in one page. The bytes take memory, and so does a list of the traces.
 pub fn bloom_pages(alloc: Global, ids: &Ids) -> Result<Bytes, Memory>
     requires { length ids.now < 2 ^ 32 }
     ensures { IfOk result (λ bytes. bytes ≡ bloom_bytes (traces ids.now)) }
@@ -42,8 +42,8 @@ fn set_all(bytes: &mut [u8], pages: u64, entries: &[IndexEntry])
     }
 }
 
-/// Whether a page of Bloom filters has all four bits of the trace set. In the page of the trace's id, no `false` is said of
-/// a trace that the block holds; a `true` may be said of one that it doesn't. Takes no memory.
+/// Whether a page of Bloom filters has all four bits of the trace set. In the page of the trace's id, no `false` is
+/// said of a trace that the block holds; a `true` may be said of one that it doesn't. Takes no memory.
 pub fn may_hold(page: &[u8; 4096], id: TraceId) -> bool
     ensures { result ≡ may_hold page.now id.0 }
 {

@@ -1,4 +1,5 @@
-//! The entries of the index: one for each trace.
+//! The entries of the index, one for each trace, made from the ids of rows in their order. `index` writes them;
+//! `bloom` takes from them which traces there are.
 
 ghost use Rattle.std.specs.Prelude.{◌≡◌, ◌^◌, ◌<◌, ◌≤◌, IfOk, length};
 ghost use Rattle.std.specs.List.{prefix_len};

@@ -1,4 +1,4 @@
-//! The pages of the index.
+//! Writing the pages of the index: entries to bytes.
 
 ghost use Rattle.std.specs.Prelude.{◌≡◌, ◌++◌, ◌*◌, ◌^◌, ◌<◌, ◌≤◌, IfOk, OnOk, length, replicate};
 ghost use Rattle.std.specs.List.{flat_map};

@@ -1,4 +1,7 @@
-//! Laws of the index and of the Bloom filters.
+//! Theorems about the index and the Bloom filters: what they say of a trace is so of the rows.
+//!
+//! Each function has an empty body: its contract is the statement, and its proof stands in `proofs/laws/`. What looks
+//! a trace up in `block_read` calls them to have their contracts, and `block_rows` calls the first.
 
 ghost use Rattle.std.specs.Prelude.{◌≡◌, ◌*◌, ◌<◌, ℕ, Contains, List, length, true};
 ghost use Rattle.std.specs.List.{list_any};
@@ -23,8 +26,8 @@ pub fn pages_find_their_traces()
     ensures { (ids : List TraceId) → AreIds ids → AreAscending ids → PagesFind ids }
 {}
 
-/// Where the ids of the rows ascend, each entry of the index tells its trace's rows: the number of the first, and how many
-/// there are. They stand together, so these are all of them.
+/// Where the ids of the rows ascend, each entry of the index tells its trace's rows: the number of the first, and how
+/// many there are. They stand together, so these are all of them.
 pub fn entries_tell_rows()
     ensures { (ids : List TraceId) (entry : IndexEntry) → AreAscending ids → Contains (entries ids) entry → TellsRows ids entry }
 {}

@@ -1,6 +1,10 @@
 //! The index of a block by trace id, and its Bloom filters.
 //!
-//! `index_pages` and `bloom_pages` write them from the ids of a block's rows, `find_in_page` and `may_hold` read one page.
+//! - Writing, from the ids of a block's rows: `index` (`index_pages`) and `bloom` (`bloom_pages`), both over
+//!   `entries`, one for each trace.
+//! - Reading one page: `search` (`find_in_page`) and `bloom` (`may_hold`).
+//! - `hash` gives the bits of a filter. `laws` holds theorems: what these say is so of the rows.
+//!
 //! What the bytes mean is in `specs/Index.antt` and `specs/Bloom.antt`; `docs/BLOCK-FORMAT.md` has them with examples.
 #![tactic(auto)]
 

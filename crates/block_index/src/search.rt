@@ -1,4 +1,4 @@
-//! Looking for a trace in a page of the index.
+//! Looking for a trace in a page of the index: bytes to the entry of one trace. `block_read` halves the index by it.
 
 ghost use Rattle.std.specs.Prelude.{◌≡◌, ◌<◌, length};
 ghost use Rattle.std.specs.Int.{w32, from_le_bytes};
@@ -30,7 +30,8 @@ pub enum Found {
     Absent,
 }
 
-/// Where a trace is, by one page of the index. The page's entries end before the first id of zeros alone. Takes no memory.
+/// Where a trace is, by one page of the index. The page's entries end before the first id of zeros alone. Takes no
+/// memory.
 pub fn find_in_page(page: &[u8; 4096], id: TraceId) -> Found
     ensures { result ≡ found id (entries_on page.now) }
 {

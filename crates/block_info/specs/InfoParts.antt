@@ -1,4 +1,4 @@
--- A block's information as its parts.
+-- A block's information as contracts see it: its parts, none of which reaches page 2^52.
 use Rattle.std.specs.Prelude.{ℕ, ◌+◌, ◌^◌, ◌<◌, List}
 use Rattle.std.specs.List.{AllByRecursion}
 use Rattle.block_info.specs.declared.info.StripeInfo.{StripeInfo}

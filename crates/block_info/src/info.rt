@@ -1,4 +1,4 @@
-//! A block's information and that of its stripes.
+//! A block's information and that of its stripes, as the store keeps them in memory for each listed block.
 
 use span_types::{Seq, Shared};
 use std::marker::Model;
@@ -21,8 +21,8 @@ pub struct StripeInfo {
 /// The stripes of a block, in the order of their pages.
 pub type Stripes = Seq<StripeInfo>;
 
-/// A block. Its number of pages, and each part's first page plus the number of its pages, are below 2^52, so that the offset of
-/// each byte fits a 64-bit number.
+/// A block. Its number of pages, and each part's first page plus the number of its pages, are below 2^52, so that the
+/// offset of each byte fits a 64-bit number.
 #[derive(Debug, Drop)]
 pub struct BlockInfo {
     /// Its file.

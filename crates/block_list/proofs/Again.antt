@@ -18,7 +18,7 @@ use Rattle.block_list.specs.declared.body.BlockRef.{BlockRef}
 
 -- ---- steps
 
--- a value was read, and these bytes stand behind it
+-- a value was read, and these bytes stand after it
 pub record ReadsTo {A : Type 0} (read : Result (A × Stand) ℕ) (x : A) (rest : List ℕ) : Type 0 where
   pub stand : Stand
   pub is : read ≡ Ok (x, stand)

@@ -19,7 +19,7 @@ use Rattle.block_list.specs.declared.body.ListBody.{ListBody}
 pub closed_bytes : (bytes : List ℕ) → overwritten bytes 0 (0 ∷ []) ≡ 0 ∷ drop 1 bytes
 closed_bytes bytes = overwritten_behind [] bytes 0 (0 ∷ []) refl
 
--- the list behind it
+-- the list after it
 pub laid_bytes : (text bytes : List ℕ) → overwritten (0 ∷ drop 1 bytes) 1 text ≡ laid text bytes
 laid_bytes text bytes = overwritten_behind (0 ∷ []) (drop 1 bytes) 1 text refl
 
@@ -79,7 +79,7 @@ module _ {D : Type 0} (moment : D → ℕ) (left_since : D → ℕ → Image →
       closes (slot_of list) list.generation held old disk new refl next can.free holds (only (1 - slot_of list) (omega arith))
       (subst F is (run (bytes_of held slot) (only slot (omega (arith, is)))))
 
-  -- the list is laid behind it
+  -- the list is laid after it
   pub lays : (slot generation : ℕ) (held : Image) (rest : List ℕ) (count : ℕ) (list : Option ListBody) (old new : D) → generation % 2 ≡ slot → IsNext generation list
       → ImageHoldsList held list → OnlyBytes (1 - slot) (bytes_of held (1 - slot)) (may_leave old)
       → RunInFile moment left_since may_leave slot (Torn 1 count (0 ∷ rest)) (Torn 1 count (0 ∷ rest)) old new

@@ -95,7 +95,7 @@ closing slot generation bytes others new list parity next free stands torn =
 pub closed_is_vacant : (bytes rest : List ℕ) → bytes ≡ 0 ∷ rest → IsVacant bytes
 closed_is_vacant bytes rest is = inr (λ one. absurd (omega (arith, sym (ap (λ (l : List ℕ). get_or l 0 0) is) ∙ one)))
 
--- a write behind a closed gate leaves it closed, at every moment
+-- a write after a closed gate leaves it closed, at every moment
 pub behind_closed : (rest new : List ℕ) (count : ℕ) → Torn 1 count (0 ∷ rest) new → IsVacant new
 behind_closed rest new count torn =
     let left = torn_behind (0 ∷ []) rest 1 count new (omega arith) torn in

@@ -46,7 +46,7 @@ head_bytes body =
     magic ++ body.generation ∷ [] ++ fixed32_bytes body.next_file ++ fixed64_bytes body.floor
     ++ fixed32_bytes (length body.segments) ++ fixed32_bytes (length body.blocks) ++ fixed32_bytes (length body.loose)
 
--- the bytes behind the gate
+-- the bytes after the gate
 unfoldable pub text_of : ListBody → List ℕ
 text_of body =
     head_bytes body ++ flat_map segment_bytes body.segments ++ flat_map block_bytes body.blocks ++ flat_map fixed32_bytes body.loose

@@ -17,7 +17,7 @@ pub record IsListText (list : ListText) (body : ListBody) : Type 0 where
   pub text : list.text ≡ text_of body
   pub rules : MeetsRules body
 
--- the slot's bytes once the list stands in it behind a closed gate; what stood behind it before stays
+-- the slot's bytes once the list stands in it after a closed gate; what stood after it before stays
 abbrev pub laid : List ℕ → List ℕ → List ℕ
 laid text before = (0 ∷ text) ++ drop (length text) (drop 1 before)
 

@@ -96,7 +96,7 @@ segment_ref_at next_file floor is_last before seen s = do
   first ← first_number_at floor is_last before file.1
   Ok (record { file = file.0; first = first.0 }, first.1)
 
--- so many segments more, behind these
+-- so many segments more, after these
 unfoldable pub segments_at : ℕ → ℕ → ℕ → Option ℕ → List SegmentRef → Stand → Result (List SegmentRef × Stand) ℕ
 segments_at next_file floor zero before done s = Ok (done, s)
 segments_at next_file floor (suc count) before done s = do
@@ -120,21 +120,21 @@ block_at next_file seen s = do
   rows ← rows_at level.1
   Ok (record { file = file.0; level = level.0; rows = rows.0 }, rows.1)
 
--- so many blocks more, behind these; the earlier files are named already
+-- so many blocks more, after these; the earlier files are named already
 unfoldable pub blocks_at : ℕ → List ℕ → ℕ → List BlockRef → Stand → Result (List BlockRef × Stand) ℕ
 blocks_at next_file earlier zero done s = Ok (done, s)
 blocks_at next_file earlier (suc count) done s = do
   block ← block_at next_file (earlier ++ map (λ block. block.file) done) s
   blocks_at next_file earlier count (done ++ block.0 ∷ []) block.1
 
--- so many loose files more, behind these
+-- so many loose files more, after these
 unfoldable pub loose_at : ℕ → List ℕ → ℕ → List ℕ → Stand → Result (List ℕ × Stand) ℕ
 loose_at next_file earlier zero done s = Ok (done, s)
 loose_at next_file earlier (suc count) done s = do
   file ← file_at next_file (earlier ++ done) s
   loose_at next_file earlier count (done ++ file.0 ∷ []) file.1
 
--- a list behind an open gate
+-- a list after an open gate
 unfoldable pub list_body_at : ℕ → Option ℕ → Stand → Result (ListBody × Stand) ℕ
 list_body_at slot other s = do
   head ← head_at slot other s

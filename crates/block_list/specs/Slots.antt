@@ -12,7 +12,7 @@ IsOpen bytes = slice_index bytes 0 ≡ 1
 abbrev pub IsVacant : List ℕ → Type 0
 IsVacant bytes = (length bytes < 30) ⊎ (slice_index bytes 0 ≢ 1)
 
--- the slot of that number holds this list; bytes behind it don't count
+-- the slot of that number holds this list; bytes after it don't count
 pub record SlotHolds (slot : ℕ) (bytes : List ℕ) (body : ListBody) : Type 0 where
   pub rest : List ℕ
   pub encoded : bytes ≡ (1 ∷ text_of body) ++ rest

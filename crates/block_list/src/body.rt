@@ -1,4 +1,4 @@
-//! What a list says.
+//! What a list says: what `reading` makes of a slot's bytes, and `prepared` makes bytes of.
 
 use span_types::Seq;
 

@@ -1,4 +1,4 @@
-//! A list is written into the slot of its generation, and its gate is opened.
+//! A commit: a list's bytes are put into the slot of its generation, and its gate is opened. No memory is taken.
 
 ghost use Rattle.std.specs.Prelude.{◌≡◌, ◌+◌, Option, Some, IsTrue, OnOk, length};
 ghost use Rattle.disk_model.specs.Images.{Image, bytes_of, Besides};
@@ -13,9 +13,9 @@ use crate::PreparedList;
 use disk_model::{Device, write_through};
 use span_types::Failed;
 
-/// The first half of a commit: a closed gate is put into the slot of the list's generation, and once that lasts the list is
-/// put behind it. It takes no memory. Where the list may be laid, the slots stand at every moment for the list that counted
-/// before.
+/// The first half of a commit: a closed gate is put into the slot of the list's generation, and once that lasts the
+/// list is put after it. It takes no memory. Where the list may be laid, the slots stand at every moment for the list
+/// that counted before.
 pub fn lay<D: Device>(disk: &mut D, list: &PreparedList) -> Result<(), Failed>
     // A crash at any moment leaves the old list, and every file but this slot as it might have left it before.
     ensures any_moment { IsTrue (D.tells disk.old) → CanLay (D.held disk.old) (D.may_leave disk.old) list.now
@@ -33,11 +33,12 @@ pub fn lay<D: Device>(disk: &mut D, list: &PreparedList) -> Result<(), Failed>
     write_through(disk, slot, 1, list.text())
 }
 
-/// The second half of a commit: the gate of a list that was laid is opened, and made to last. It takes no memory. Where
-/// that gate may be opened, the slots stand at every moment for the list that counted before or for this one, and at `Ok`
-/// for this one.
+/// The second half of a commit: the gate of a list that was laid is opened, and made to last. It takes no memory.
+/// Where that gate may be opened, the slots stand at every moment for the list that counted before or for this one,
+/// and at `Ok` for this one.
 pub fn open_gate<D: Device>(disk: &mut D, list: &PreparedList) -> Result<(), Failed>
-    // A crash at any moment leaves the old list or the new one, and every file but this slot as it might have left it before.
+    // A crash at any moment leaves the old list or the new one, and every file but this slot as it might have left it
+    // before.
     ensures any_moment { IsTrue (D.tells disk.old) → CanOpen (D.held disk.old) (D.may_leave disk.old) list.now
         → (old : Option ListBody) (new : ListBody)
         → ImageHoldsList (D.held disk.old) old → IsNext list.now.generation old → IsListText list.now new
@@ -59,11 +60,12 @@ pub fn open_gate<D: Device>(disk: &mut D, list: &PreparedList) -> Result<(), Fai
     write_through(disk, list.slot(), 0, &[1])
 }
 
-/// Writes a list into the slot of its generation: it is laid, and its gate is opened. It takes no memory. Where the list
-/// may be laid, the slots stand at every moment for the list that counted before or for this one, and at `Ok` for this
-/// one.
+/// Writes a list into the slot of its generation: it is laid, and its gate is opened. It takes no memory. Where the
+/// list may be laid, the slots stand at every moment for the list that counted before or for this one, and at `Ok` for
+/// this one.
 pub fn commit<D: Device>(disk: &mut D, list: &PreparedList) -> Result<(), Failed>
-    // A crash at any moment leaves the old list or the new one, and every file but this slot as it might have left it before.
+    // A crash at any moment leaves the old list or the new one, and every file but this slot as it might have left it
+    // before.
     ensures any_moment { IsTrue (D.tells disk.old) → CanLay (D.held disk.old) (D.may_leave disk.old) list.now
         → (old : Option ListBody) (new : ListBody)
         → ImageHoldsList (D.held disk.old) old → IsNext list.now.generation old → IsListText list.now new

@@ -1,4 +1,4 @@
-//! Why the slots give no list.
+//! Why the slots give no list: what `loading` answers an opening with.
 
 ghost use Rattle.std.specs.Prelude.{◌≡◌};
 

@@ -1,4 +1,7 @@
-//! Laws about the slots and the lists.
+//! Theorems about the slots and the lists: what slots hold is read, and when a further list may be written.
+//!
+//! Each function has an empty body: its contract is the statement, and its proof stands in `proofs/laws/`. Nothing
+//! calls them; proofs of `store_core` and `store_images` cite the lemmas. `_disk` is there to name the type `D`.
 
 ghost use Rattle.std.specs.Prelude.{◌≡◌, ◌≤◌, ◌+◌, ◌*◌, ℕ, Option, Some, List, Ok, length};
 ghost use Rattle.disk_model.specs.Images.{Besides, SameBytes};
@@ -40,7 +43,7 @@ pub fn held_list_is_read()
         → MeetsRules body }
 {}
 
-/// How many bytes a list takes behind the gate.
+/// How many bytes a list takes after the gate.
 pub fn size_of_text()
     ensures { (body : ListBody) → length (text_of body)
         ≡ 29 + 12 * length body.segments + 9 * length body.blocks + 4 * length body.loose }

@@ -1,4 +1,5 @@
-//! The list that counts is read from the two slots.
+//! The list that counts is read from the two slots, as a store is opened: both are synced and read, and a long slot
+//! that has no list is cut to its first byte, so that the next commit may be written to it.
 
 ghost use Rattle.std.specs.Prelude.{◌≡◌, ◌≢◌, ◌⊎◌, ◌<◌, ◌≤◌, ℕ, List, length, take, Option, Some, None, Ok, Err, IsTrue, IsOk, IsErr, IfOk, IfErr, OnOk};
 ghost use Rattle.disk_model.specs.Images.{Image, bytes_of, Besides, SameBytes};
@@ -18,31 +19,31 @@ use disk_model::{Device, cut_through};
 use span_types::Failed;
 use std::alloc::Global;
 
-/// The list that counts, or `None` on a disk whose slots have none. The two slots are made to last and then read. A slot
-/// that has no list, though it is long enough for one, is cut down to its gate.
+/// The list that counts, or `None` on a disk whose slots have none. The two slots are made to last and then read. A
+/// slot that has no list, though it is long enough for one, is cut down to its gate.
 ///
-/// A closing gate may then be written to a slot whatever stands in it: it is either open, and holds the list before the
-/// one that counts, or too short to hold one. Where the slots are refused, or memory runs out, the disk stays as it was.
-/// At a fault too a slot that isn't vacant stays as it was, also a malformed one.
+/// A closing gate may then be written to a slot whatever stands in it: it is either open, and holds the list before
+/// the one that counts, or too short to hold one. Where the slots are refused, or memory runs out, the disk stays as
+/// it was. At a fault too a slot that isn't vacant stays as it was, also a malformed one.
 pub fn load<D: Device>(alloc: Global, disk: &mut D) -> Result<Option<ListBody>, ListError>
     // What the slots say, and where they break, is by the bytes that the disk held.
     ensures found { IsTrue (D.tells disk.old) → IfOk result (λ list. slots_at (bytes_of (D.held disk.old) 0) (bytes_of (D.held disk.old) 1) ≡ Ok list) }
     ensures list { IsTrue (D.tells disk.old) → IfOk result (λ list. ImageHoldsList (D.held disk.old) list) }
     ensures not_list { IsTrue (D.tells disk.old) → (slot at : ℕ) → result ≡ Err (NotList slot at) → slots_at (bytes_of (D.held disk.old) 0) (bytes_of (D.held disk.old) 1) ≡ Err (slot, at) }
 
-    // A list meets the rules, whatever the disk tells.
+    // A list meets the rules, whatever the disk shows.
     ensures rules { (body : ListBody) → result ≡ Ok (Some body) → MeetsRules body }
 
     // Slots that stand for a list, or for none, are read as just that.
     ensures only { IsTrue (D.tells disk.old) → (list : Option ListBody) → ImageHoldsList (D.held disk.old) list → IfOk result (λ found. found ≡ list) }
     ensures readable { IsTrue (D.tells disk.old) → (list : Option ListBody) (slot at : ℕ) → ImageHoldsList (D.held disk.old) list → result ≢ Err (NotList slot at) }
 
-    // A crash at any moment leaves what stands for what some image stood for at the start, with every other file, and with
-    // each slot that wasn't vacant there, be it malformed.
+    // A crash at any moment leaves what stands for what some image stood for at the start, with every other file, and
+    // with each slot that wasn't vacant there, be it malformed.
     ensures kept { IsTrue (D.tells disk.old) → Run KeepsList D.moment D.left_since D.may_leave disk.old disk.new }
 
-    // At `Ok` the disk still stands for the list, each slot has one image, which is what a read gives, and the next list may
-    // be laid.
+    // At `Ok` the disk still stands for the list, each slot has one image, which is what a read gives, and the next
+    // list may be laid.
     ensures ready { IsTrue (D.tells disk.old) → IfOk result (λ list. IsReady (D.held disk.new) (D.may_leave disk.new) list) }
     ensures cleared_0 { IsTrue (D.tells disk.old) → OnOk result (bytes_of (D.held disk.new) 0 ≡ cleared (bytes_of (D.held disk.old) 0)) }
     ensures cleared_1 { IsTrue (D.tells disk.old) → OnOk result (bytes_of (D.held disk.new) 1 ≡ cleared (bytes_of (D.held disk.old) 1)) }

@@ -1,4 +1,4 @@
-//! A list in bytes, ready to be written.
+//! A list in bytes, ready to be written. All memory that its commit needs is taken here.
 
 ghost use Rattle.std.specs.Prelude.{◌≡◌, ◌<◌, ◌≤◌, ◌+◌, ◌*◌, ◌^◌, ◌%◌, ◌++◌, ◌∷◌, [], length, vec_len, vec_capacity, IfOk};
 ghost use Rattle.std.specs.List.{flat_map};
@@ -14,7 +14,7 @@ use std::marker::Model;
 // A list doesn't name more files than there are numbers for.
 const MOST_ENTRIES: usize = 4_294_967_295;
 
-/// A list in bytes, as the slot of its generation gets it behind the gate.
+/// A list in bytes, as the slot of its generation gets it after the gate.
 #[derive(Drop)]
 pub struct PreparedList {
     generation: u8,
@@ -45,8 +45,8 @@ pub fn prepare(alloc: Global, body: &ListBody) -> Result<PreparedList, Memory>
     })
 }
 
-/// A body in bytes, where it isn't known whether it meets the rules. One with more entries of a kind than there are numbers of
-/// files is refused for memory.
+/// A body in bytes, where it isn't known whether it meets the rules. One with more entries of a kind than there are
+/// numbers of files is refused for memory.
 pub fn prepare_any(alloc: Global, body: &ListBody) -> Result<PreparedList, Memory>
     ensures text { MeetsRules body.now → IfOk result (λ list. IsListText list body.now) }
     // The text is short, whatever the body.
@@ -65,7 +65,7 @@ pub fn prepare_any(alloc: Global, body: &ListBody) -> Result<PreparedList, Memor
 }
 
 impl PreparedList {
-    /// One that has no body yet, with room for one of so many bytes behind the gate.
+    /// One that has no body yet, with room for one of so many bytes after the gate.
     pub fn with_room(alloc: Global, bytes: usize) -> Result<PreparedList, Memory>
         ensures { IfOk result (λ list. bytes ≤ list.room) }
     {
@@ -96,7 +96,7 @@ impl PreparedList {
         u32::from(self.generation % 2)
     }
 
-    /// The bytes behind the gate.
+    /// The bytes after the gate.
     pub fn text(&self) -> &[u8]
         ensures { result.now ≡ self.now.text }
     {
@@ -104,7 +104,7 @@ impl PreparedList {
     }
 }
 
-/// How many bytes a body takes behind the gate.
+/// How many bytes a body takes after the gate.
 fn size_of(body: &ListBody) -> usize
     requires segments { length body.now.segments < 2 ^ 32 }
     requires blocks { length body.now.blocks < 2 ^ 32 }

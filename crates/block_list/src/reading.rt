@@ -1,4 +1,4 @@
-//! A slot's fields are read and tested, in the order of the bytes.
+//! Reading a slot, bytes to a list: its fields are read and tested in the order of the bytes, for `loading`.
 
 ghost use Rattle.std.specs.Prelude.{length, ◌≡◌, ◌||◌, ◌%◌, ℕ, List, [], ◌++◌, Some, None, Option, map, nat_eq, not, true, false, Ok, Err, IfOk, IfSome, IfErr, OnOk, ◌∷◌, ◌==◌};
 ghost use Rattle.std.specs.List.{list_any};
@@ -12,7 +12,7 @@ use std::alloc::Global;
 use std::collections::HashSet;
 use std::marker::Model;
 
-/// Where a slot breaks, or `None` for want of memory.
+/// Where a slot breaks, or `None` if memory ran out.
 pub type Break = Option<u64>;
 
 /// The fixed fields of a list.
@@ -306,7 +306,7 @@ fn keep<T: Drop>(items: &mut Vec<T>, item: T) -> Result<(), Break>
     }
 }
 
-/// A list behind an open gate.
+/// A list after an open gate.
 #[tactic(auto, unfolding(crate::specs::Reading::list_body_at))]
 fn read_list(
     alloc: Global,

@@ -1,4 +1,4 @@
--- What comes after the stripes of a block.
+-- What comes after the stripes of a block: the pages of its index and of its Bloom filters.
 use Rattle.std.specs.Prelude.{◌≡◌, List, length}
 use Rattle.std.specs.Int.{div_ceil}
 use Rattle.span_types.specs.declared.ids.TraceId.{TraceId}

@@ -1,4 +1,4 @@
-//! What rows tell of their block: its form, and their trace ids.
+//! What rows say of their block: its form, and their trace ids.
 
 ghost use Rattle.std.specs.Prelude.{◌≡◌, IfOk, length};
 ghost use Rattle.std.specs.List.{All, list_any};

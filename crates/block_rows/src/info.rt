@@ -1,4 +1,4 @@
-//! What the header of a block tells.
+//! What the header of a block says: the block's information, and where its index begins.
 
 ghost use Rattle.std.specs.Prelude.{◌≡◌, ◌+◌, ◌≤◌, ◌^◌};
 ghost use Rattle.block_format.specs.Blocks.{index_page_of, info_of};

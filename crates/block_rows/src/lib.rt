@@ -1,5 +1,7 @@
-//! What rows and header tell of a block: its form, its trace ids, what comes after its stripes, the index and the Bloom filters
-//! with the counts of their pages, and its information.
+//! What rows and header say of a block beside its stripes: its form, its trace ids, its index and Bloom filters, and
+//! its information.
+//!
+//! `block_build` writes a block by it, and `block_read` tests a block that it read, so that both mean the same.
 #![tactic(auto)]
 
 mod form;

@@ -1,4 +1,5 @@
-//! The index and the Bloom filters of a block, and how many pages each has.
+//! What comes after the stripes of a block, ids of rows to bytes: the index and the Bloom filters, and how many pages
+//! each has.
 
 ghost use Rattle.std.specs.Prelude.{◌≡◌, ◌^◌, ◌<◌, IfOk, length};
 ghost use Rattle.std.specs.List.{All};
@@ -23,8 +24,8 @@ pub struct Tail {
     pub bloom_pages: u32,
 }
 
-/// What comes after the stripes of rows with these trace ids, of which there are fewer than 2^32. They stand in the order of the
-/// rows.
+/// What comes after the stripes of rows with these trace ids, of which there are fewer than 2^32. They stand in the
+/// order of the rows.
 pub fn tail_of(alloc: Global, ids: &Ids) -> Result<Tail, Memory>
     requires few { length ids.now < 2 ^ 32 }
     requires long { All (λ id. length id.0 ≡ 16) ids.now }

@@ -1,4 +1,4 @@
-//! Several traces, in ascending order.
+//! The entry point: the rows of several traces, which are looked up in ascending order.
 
 ghost use Rattle.std.specs.Prelude.{◌≡◌, IfOk, IsTrue, List};
 ghost use Rattle.span_types.specs.declared.spans.Row.{Row};
@@ -17,9 +17,10 @@ use std::alloc::Global;
 
 /// The rows of these traces in a block, in block order. Their ids ascend, each once.
 ///
-/// A trace is looked up by the block's filters and its index, unless a stripe that was read settles it, and each stripe that
-/// holds one of the traces is read once. Of a block that the information describes no more pages are read than look-ups of
-/// each trace by itself may read. Of other pages it may give any rows of these traces, or answer [`ReadError::NotBlock`].
+/// A trace is looked up by the block's filters and its index, unless a stripe that was read settles it, and each
+/// stripe that holds one of the traces is read once. Of a block that the information describes no more pages are read
+/// than look-ups of each trace by itself may read. Of other pages it may give any rows of these traces, or answer
+/// [`ReadError::NotBlock`].
 pub fn rows_of_traces<P: Pages>(
     alloc: Global,
     pages: &mut P,

@@ -1,4 +1,4 @@
-//! What a stripe has of the traces.
+//! One stripe of a walk is read, and its rows of the wanted traces are added.
 
 ghost use Rattle.std.specs.Prelude.{◌≡◌, ◌+◌, ◌*◌, ◌^◌, ◌<◌, ◌++◌, IfOk, IsTrue, List, OnOk};
 ghost use Rattle.span_types.specs.declared.spans.Row.{Row};

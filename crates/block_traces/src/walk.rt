@@ -75,8 +75,8 @@ fn has_passed(id: TraceId, last: Option<TraceId>) -> bool
     }
 }
 
-/// Goes on past the stripes with so many rows from that one on, and adds the rows of the traces that they hold. A stripe
-/// that is passed is not read again.
+/// Goes on past the stripes with so many rows from that one on, and adds the rows of the traces that they hold. A
+/// stripe that is passed is not read again.
 ///
 /// [`ReadError::NotBlock`] comes as in [`traces_of_part`](block_read::traces_of_part), or at 0 if the block has no such
 /// rows.

@@ -164,10 +164,10 @@ fn rows_in_another_order_and_twice(rt: HostRuntime) {
     }
 }
 
-/// Whether this is known of the block of 1,048,576 rows, of which the first one starts at 0 and each other a nanosecond
-/// after the one before it: a header of 33 pages; 4,096 stripes of 256 rows on four pages each, since a row has 49 bytes
-/// and one to three for its position, and what comes before them has 18; and a page of the index and one of Bloom
-/// filters.
+/// Whether this is known of the block of 1,048,576 rows, of which the first one starts at 0 and each other a
+/// nanosecond after the one before it: a header of 33 pages; 4,096 stripes of 256 rows on four pages each, since a row
+/// has 49 bytes and one to three for its position, and what comes before them has 18; and a page of the index and one
+/// of Bloom filters.
 fn is_largest(info: &BlockInfo) -> bool {
     let first = StripeInfo {
         page: 33,

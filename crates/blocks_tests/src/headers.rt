@@ -19,8 +19,8 @@ pub(crate) const ONE: &str = "
     filters 01 00 00 00
     01 00 00 00 00 00 00 00 01 00 00 00 00 00 00 00 01 00 00 00 00 00 00 00 01 00 00 00 00 00 00 00";
 
-/// The header of a block of 513 rows in form 2, up to the fill: two stripes of 256 rows, on five pages and on 258, and one of a
-/// row; 171 traces.
+/// The header of a block of 513 rows in form 2, up to the fill: two stripes of 256 rows, on five pages and on 258, and
+/// one of a row; 171 traces.
 const THREE: &str = "
     TSB2 54 53 42 32
     pages 01 00 00 00
@@ -99,7 +99,7 @@ fn written_and_read(rt: HostRuntime) {
     assert!(&rt; are_of(alloc, bytes.as_slice(), &header));
 }
 
-/// Compares the offset that is told of bytes.
+/// Compares the offset that is reported of bytes.
 fn check(rt: &(impl Abort + AllocGlobal), bytes: &[u8], offset: u64) {
     let got = told(rt.alloc(), bytes).expect(rt, "memory");
     assert!(rt; got == offset, "{got} and {offset}");
@@ -129,7 +129,7 @@ static CHANGES: [(usize, &str, u64); 17] = [
     (8, "00", 8),
     // 33 pages for 4,097 stripes.
     (4, "21 00 00 00 01 10", 8),
-    // The stripe ends at page 2^51, and behind it.
+    // The stripe ends at page 2^51, and after it.
     (20, "ff ff ff ff ff ff 07", SOUND),
     (20, "00 00 00 00 00 00 08", 20),
     // Of two stripes the first one has not 256 rows; no row, 256 of them, and more than a stripe has.

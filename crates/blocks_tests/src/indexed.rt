@@ -14,7 +14,7 @@ const INDEX: &str = "
 /// The bytes of the Bloom filters of the trace `a1` that aren't zero, by their place in the page.
 pub(crate) static BLOOM: [(usize, u8); 4] = [(217, 0x02), (1279, 0x80), (2454, 0x01), (2587, 0x80)];
 
-/// The trace whose id ends so, behind zeros.
+/// The trace whose id ends so, after zeros.
 fn trace(last: u8) -> TraceId {
     TraceId([0, 0, 0, 0, 0, 0, 0, 0, 0, 0, 0, 0, 0, 0, 0, last])
 }

@@ -94,7 +94,8 @@ fn given(alloc: Global, pages: &mut MemPages, info: &BlockInfo, id: TraceId) -> 
     }
 }
 
-/// What looking up a trace in a block that was built gives, and how many pages it read, where the reads with these numbers fail.
+/// What looking up a trace in a block that was built gives, and how many pages it read, where the reads with these
+/// numbers fail.
 fn found(
     rt: &(impl Abort + AllocGlobal),
     built: &BuiltBlock,
@@ -115,8 +116,8 @@ fn a_trace_over_two_stripes(rt: HostRuntime) {
     assert!(&rt; found(&rt, &built, 3, &[]) == (Gave::Rows(0), 1));
 }
 
-/// Asserts that looking up each of these traces gives so many rows, or none of one with an odd number, and reads so many pages at
-/// most.
+/// Asserts that looking up each of these traces gives so many rows, or none of one with an odd number, and reads so
+/// many pages at most.
 fn check_found(
     rt: &(impl Abort + AllocGlobal),
     built: &BuiltBlock,
@@ -280,8 +281,8 @@ static BROKEN: [(u64, &[u8], u64); 4] = [
 
 #[test]
 fn a_stripe_that_breaks(rt: HostRuntime) {
-    // Two traces of 200 rows each. The second stripe has the last 144 rows: one empty text from byte 8, one resource, one scope, the
-    // number of rows from byte 16, their traces from 18, and their spans' ids from 2,322.
+    // Two traces of 200 rows each. The second stripe has the last 144 rows: one empty text from byte 8, one resource,
+    // one scope, the number of rows from byte 16, their traces from 18, and their spans' ids from 2,322.
     let built = block(&rt, 2, 200);
     let first = second_stripe(&built.info);
     for (offset, new, broken) in &BROKEN {
@@ -299,7 +300,8 @@ fn a_stripe_that_breaks(rt: HostRuntime) {
     }
 }
 
-/// Whether looking up each trace in the bytes of a block gives all of its rows, none, or that an entry names rows that no stripe has.
+/// Whether looking up each trace in the bytes of a block gives all of its rows, none, or that an entry names rows that
+/// no stripe has.
 fn are_theirs(alloc: Global, pages: &mut MemPages, info: &BlockInfo) -> bool {
     for number in 0..344 {
         match given(alloc, pages, info, trace(number)) {

@@ -6,7 +6,7 @@ use std::process::Abort;
 
 /// A place of the stripe, the bytes that stand there, and the offset.
 static ONE: [(usize, &str, u64); 34] = [
-    // The last field passes the content's end; the content goes on behind it, or has no end.
+    // The last field passes the content's end; the content goes on after it, or has no end.
     (0, "c9", 209),
     (0, "cb", 210),
     (7, "01", 210),
@@ -38,7 +38,7 @@ static ONE: [(usize, &str, u64); 34] = [
     (154, "00", 38),
     (156, "00", 46),
     (207, "0a", 31),
-    // The first of them is told; an order of rows after all others.
+    // The first of them is reported; an order of rows after all others.
     (154, "00 00 00", 38),
     (115, "06 06", 115),
     // Rows that don't ascend: by the trace, by the id, which is the same, and by the start.
@@ -53,7 +53,7 @@ static ONE: [(usize, &str, u64); 34] = [
     (205, "00", 198),
 ];
 
-/// Compares the offset that is told of the stripe with these bytes there.
+/// Compares the offset that is reported of the stripe with these bytes there.
 fn check(rt: &(impl Abort + AllocGlobal), bytes: &[u8], offset: u64, place: usize) {
     let got = told(rt.alloc(), bytes, 2).expect(rt, "memory");
     assert!(rt; got == offset, "{got} at {place}");
@@ -69,12 +69,13 @@ fn in_one_place(rt: HostRuntime) {
 
 /// The same of two places.
 static TWO: [(usize, &str, usize, &str, u64); 4] = [
-    // A text that nothing refers to comes before such a resource, and such a resource before a kind of value that there isn't.
+    // A text that nothing refers to comes before such a resource, and such a resource before a kind of value that
+    // there isn't.
     (154, "00", 207, "0a", 31),
     (154, "00", 208, "03", 38),
     // But where that kind isn't there, nothing is known of the text.
     (207, "0a", 208, "03", 208),
-    // Rows that don't ascend are told last.
+    // Rows that don't ascend are reported last.
     (117, "02", 208, "03", 208),
 ];
 

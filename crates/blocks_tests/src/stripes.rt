@@ -57,8 +57,8 @@ const PLAIN: &str = "
     owners: 00 01 00 01
     attributes: 01 09 01 01 02 01 00 06 00 01 06";
 
-/// What is told of `STRIPE` where the lowest bit of one byte is another one, byte by byte. These tables are from a decoder in
-/// another language, written from the page of the format.
+/// What is reported of `STRIPE` where the lowest bit of one byte is another one, byte by byte. These tables are from a
+/// decoder in another language, written from the page of the format.
 const LOWEST: &str = "
     210 210 210 210 210 210 210 210
     39
@@ -110,7 +110,7 @@ const HIGHEST: &str = "
     210 210 . . . . . . . . 178 179
     210 181 . . . . . . . . . . . . . . . . . . . . . . . . 209 207 208 209";
 
-/// What is told of `PLAIN` where the lowest bit of one byte is another one, byte by byte.
+/// What is reported of `PLAIN` where the lowest bit of one byte is another one, byte by byte.
 const PLAIN_LOWEST: &str = "
     164 164 164 164 164 164 164 164
     35
@@ -172,7 +172,8 @@ fn is_skimmed(alloc: Global, rows: &Rows, form: u8, bytes: &[u8]) -> bool {
     }
 }
 
-/// The offset at which the bytes are malformed, or that they are sound: their rows have these bytes again, and are skimmed.
+/// The offset at which the bytes are malformed, or that they are sound: their rows have these bytes again, and are
+/// skimmed.
 pub(crate) fn told(alloc: Global, bytes: &[u8], form: u8) -> Result<u64, Memory> {
     match rows_of(alloc, bytes, form)? {
         Ok(rows) => {
@@ -193,7 +194,7 @@ fn flip(bytes: &mut [u8], place: usize, bit: u8) {
     }
 }
 
-/// What is told where one bit of one byte of the fields is another one, byte by byte.
+/// What is reported where one bit of one byte of the fields is another one, byte by byte.
 fn changes(alloc: Global, words: &str, form: u8, bit: u8) -> Result<Vec<u64>, Memory> {
     let count = bytes_of(alloc, words)?.len();
     let mut bytes = page(alloc, words)?;
@@ -206,7 +207,7 @@ fn changes(alloc: Global, words: &str, form: u8, bit: u8) -> Result<Vec<u64>, Me
     Ok(found)
 }
 
-/// The fields of a stripe, its form, a bit, and what is told where that bit is another one.
+/// The fields of a stripe, its form, a bit, and what is reported where that bit is another one.
 static TURNED: [(&str, u8, u8, &str); 3] = [
     (STRIPE, 2, 1, LOWEST),
     (STRIPE, 2, 128, HIGHEST),
@@ -225,13 +226,13 @@ fn one_byte_is_another_one(rt: HostRuntime) {
     }
 }
 
-/// Compares the offset that is told of bytes.
+/// Compares the offset that is reported of bytes.
 fn check(rt: &(impl Abort + AllocGlobal), bytes: &[u8], form: u8, offset: u64) {
     let got = told(rt.alloc(), bytes, form).expect(rt, "memory");
     assert!(rt; got == offset, "{got} and {offset}");
 }
 
-/// Asserts that each cut of a stripe is told where the bytes end.
+/// Asserts that each cut of a stripe is reported where the bytes end.
 fn check_cuts(rt: &(impl Abort + AllocGlobal), bytes: &[u8], form: u8) {
     for len in 0..4096u64 {
         let cut = bytes.get(..len as usize).expect(rt, "a page");
@@ -239,7 +240,7 @@ fn check_cuts(rt: &(impl Abort + AllocGlobal), bytes: &[u8], form: u8) {
     }
 }
 
-/// Asserts that each other byte of the fill is told, which begins there.
+/// Asserts that each other byte of the fill is reported, which begins there.
 fn check_fill(rt: &(impl Abort + AllocGlobal), bytes: &mut [u8], form: u8, fill: u64) {
     for place in fill..4096 {
         flip(bytes, place as usize, 1);

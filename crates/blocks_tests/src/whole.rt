@@ -30,7 +30,7 @@ const INDEX: &str = "
     first: 00 00 00 00
     rows: 01 00 00 00";
 
-/// What is told where a byte of the header is one more than it is, byte by byte; behind these the byte itself.
+/// What is reported where a byte of the header is one more than it is, byte by byte; after these the byte itself.
 const HEADER_CHANGES: &str = "
     0 0 0 4169
     4 4 4 4
@@ -42,7 +42,7 @@ const HEADER_CHANGES: &str = "
     4096 4096 4096 4096 4096 4096 4096 4096
     4096 4096 4096 4096 4096 4096 4096 4096";
 
-/// The same of the stripe. A trace of another id is told in the index.
+/// The same of the stripe. A trace of another id is reported in the index.
 const ROW_CHANGES: &str = "
     4169 4169 4096 4096 4096 4096 4096 4096
     4096 4107 4166 . . . . .
@@ -76,8 +76,8 @@ fn file(alloc: Global, bytes: &[u8], failing: &[u64]) -> Result<MemPages, Memory
     Ok(MemPages::new(FILE, Bytes::of(copy), calls))
 }
 
-/// The offset at which so many bytes of a file are no block of so many rows, or that they are one. None where a read fails or memory
-/// runs out.
+/// The offset at which so many bytes of a file are no block of so many rows, or that they are one. None where a read
+/// fails or memory runs out.
 fn told(alloc: Global, pages: &mut MemPages, rows: u32, length: u64) -> Option<u64> {
     match check_block(alloc, pages, FILE, 3, rows, length) {
         Ok(_) => Some(SOUND),
@@ -86,7 +86,7 @@ fn told(alloc: Global, pages: &mut MemPages, rows: u32, length: u64) -> Option<u
     }
 }
 
-/// Compares the offset that is told of these bytes, as a file of one row and of that length.
+/// Compares the offset that is reported of these bytes, as a file of one row and of that length.
 fn check(rt: &(impl Abort + AllocGlobal), bytes: &[u8], length: u64, offset: u64) {
     let mut pages = file(rt.alloc(), bytes, &[]).expect(rt, "memory");
     let got = told(rt.alloc(), &mut pages, 1, length).expect(rt, "a file");
@@ -107,7 +107,7 @@ fn lower(bytes: &mut [u8], place: usize) {
     }
 }
 
-/// What is to be told where the byte at that place is one more.
+/// What is to be reported where the byte at that place is one more.
 fn wanted(place: usize, header: &[u64], row: &[u64]) -> u64 {
     let (table, number) = if place < 4096 {
         (header, place)
@@ -134,7 +134,7 @@ fn one_byte_is_another_one(rt: HostRuntime) {
     }
 }
 
-/// How many rows and bytes a file of the block is to have, and what is told of it.
+/// How many rows and bytes a file of the block is to have, and what is reported of it.
 static SIZES: [(u32, u64, u64); 4] = [
     (1, 16384, SOUND),
     (1, 16385, 16384),
@@ -162,7 +162,7 @@ fn cut_or_longer_or_of_other_rows(rt: HostRuntime) {
 
 /// Two places of the block, the bytes that stand there, and the offset.
 static TWO: [((usize, &str), (usize, &str), u64); 13] = [
-    // The stripe disagrees with its entry, and a field behind what tells so is malformed, or its fill.
+    // The stripe disagrees with its entry, and a field after what shows it is malformed, or its fill.
     ((36, "02"), (4164, "09"), 4096),
     ((44, "00"), (4169, "01"), 4096),
     ((28, "02"), (4146, "09"), 4096),
@@ -171,7 +171,7 @@ static TWO: [((usize, &str), (usize, &str), u64); 13] = [
     // earliest start is before its latest, whatever stands in the stripe.
     ((36, "02"), (4104, "82 00"), 4096),
     ((44, "02"), (4104, "82 00"), 4096),
-    // A field before what would tell that the stripe disagrees is malformed.
+    // A field before what would show that the stripe disagrees is malformed.
     ((36, "02 00 00 00 00 00 00 00 02"), (4146, "09"), 4146),
     ((28, "02"), (4116, "09"), 4116),
     // Stripes come before the counts of index pages and of Bloom pages, and these before what they count.
@@ -201,7 +201,8 @@ fn malformed_in_two_places(rt: HostRuntime) {
     }
 }
 
-/// Entries with which no stripe agrees, and one with which another stripe would, where the file ends within the length of its stripe.
+/// Entries with which no stripe agrees, and one with which another stripe would, where the file ends within the length
+/// of its stripe.
 static CUT: [(usize, &str, u64); 3] = [
     (36, "02", 4096),
     (44, "02", 4096),
@@ -216,8 +217,8 @@ fn cut_within_a_length(rt: HostRuntime) {
     }
 }
 
-/// Whether this is known of the block: it has four pages, of which the one at 1 is its stripe, the one at 2 its index, and the
-/// one at 3 has its Bloom filters.
+/// Whether this is known of the block: it has four pages, of which the one at 1 is its stripe, the one at 2 its index,
+/// and the one at 3 has its Bloom filters.
 fn is_known(info: &BlockInfo) -> bool {
     let stripe = StripeInfo {
         page: 1,

@@ -25,7 +25,7 @@ same_read {X} x y s t e =
 
 -- ---- places
 
--- where these bytes stand next, what follows them stands behind them
+-- where these bytes stand next, what follows them stands after them
 pub left-ahead : (s : Stand) (field rest : List ℕ) → left s ≡ field ++ rest → left (ahead (length field) s) ≡ rest
 left-ahead s field rest e = sym (drop-drop (length field) s.at s.whole) ∙ ap (λ (b : List ℕ). drop (length field) b) e ∙ drop_at field rest (length field) refl
 
@@ -428,7 +428,7 @@ zigzag_answer r old new within reads = record {
   errors = errors_are (λ x. x) r old new (zigzag_at old) (λ e. (e ≡ Short (length old.whole)) ⊎ (e ≡ NotShortest old.at)) reads (zigzag_errors old);
 }
 
--- ---- one value to a spelling
+-- ---- one value to an encoding
 
 ok_cells : {X : Type 0} (x y : X) (s t : List ℕ) (F : Type 0) → (let a : Result (X × List ℕ) F = Ok (x, s) in let b : Result (X × List ℕ) F = Ok (y, t) in a ≡ b) → (x ≡ y) × (s ≡ t)
 ok_cells {X} x y s t F e =

@@ -16,7 +16,7 @@ IsBytes bytes = (i : ℕ) → get_or bytes i 0 < 256
 IsBytes-rest : (b : ℕ) (bytes : List ℕ) → IsBytes (b ∷ bytes) → IsBytes bytes
 IsBytes-rest b bytes h i = h (suc i)
 
--- one more than the largest number of so many groups behind each other, where the last one has one bit
+-- one more than the largest number of so many groups one after another, where the last one has one bit
 abbrev pub room : ℕ → ℕ
 room zero = 2
 room (suc more) = 128 * room more
@@ -32,7 +32,7 @@ room_pos : (k : ℕ) → 2 ≤ room k
 room_pos zero = omega arith
 room_pos (suc k) = omega (arith, room_pos k)
 
--- a number of the groups behind a first one, and what it comes to with that one, stay below 2 ^ 64
+-- a number of the groups after a first one, and what it comes to with that one, stay below 2 ^ 64
 pub room_of_10 : (more high : ℕ) → more ≤ 9 → 0 < more → high < room (more - 1) → 128 + 128 * high ≤ 2 ^ 64
 room_of_10 more high le pos lt =
     let e : 9 - more + suc (more - 1) ≡ 9 = omega arith in
@@ -80,7 +80,7 @@ with_low_parts group (Ok x) n rest e =
           record { high = x.0; was = ap (λ (r : List ℕ). found x.0 r) same.1; above = omega (arith, ne); sum = sym same.0 }
     ]
 
--- ---- what is read is spelled so
+-- ---- what is read is encoded so
 
 pub record Spelled (more : ℕ) (bytes : List ℕ) (n : ℕ) (rest : List ℕ) : Type 0 where
   pub parts : bytes ≡ groups more n ++ rest
@@ -122,7 +122,7 @@ number_takes (suc more) (group ∷ bytes) n rest fits e =
           record { parts = rw (groups_large more n large, low, high) (ap (λ (r : List ℕ). group ∷ r) tail.parts); fits = omega (arith, tail.fits, p.sum) }
     ]
 
--- ---- what is spelled so is read
+-- ---- what is encoded so is read
 
 pub number_again : (more n : ℕ) (rest : List ℕ) → n < room more → number_at more (groups more n ++ rest) ≡ found n rest
 unfolding number_at groups
@@ -138,7 +138,7 @@ number_again (suc more) n rest lt =
           rw (groups_large more n large, le-ltb (n % 128 + 128) 128 wide, number_again more (n / 128) rest below, ne_eqb (n / 128) 0 some, sum) refl
     ]
 
--- what was read behind the first byte
+-- what was read after the first byte
 pub high_below : (more high n : ℕ) (bytes rest : List ℕ) → more ≤ 9 → 0 < more → IsBytes bytes → number_at (more - 1) (take n (drop 1 bytes)) ≡ found high rest → 128 + 128 * high ≤ 2 ^ 64
 high_below more high n bytes rest le pos fits e =
     let fit = IsBytes-take n (drop 1 bytes) (IsBytes-drop 1 bytes fits) in

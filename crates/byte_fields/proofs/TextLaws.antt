@@ -154,7 +154,7 @@ only_if view (Err (NotText at)) old new field u reads is = absurd (let bad = sym
 ap_err : {X : Type 0} {d e : FieldError} (old : Stand) → text_at old ≡ Err d → text_at old ≡ Err e → (let a : Result X FieldError = Err e in let b : Result X FieldError = Err d in a ≡ b)
 ap_err {X} {d} {e} old a b = let same : d ≡ e = (let both = sym a ∙ b in cc) in ap (λ (z : FieldError). Err z) (sym same)
 
--- the call gives an error that isn't want of memory where reading gives it
+-- the call gives an error that isn't out of memory where reading gives it
 gives_error : {X : Type 0} (view : X → List ℕ) (r : Result X FieldError) (old new : Stand) (e : FieldError) → MayRead view r old new (text_at old) → text_at old ≡ Err e → r ≡ Err e
 gives_error view (Ok x) old new e reads is = absurd (let bad = sym reads ∙ is in cc)
 gives_error view (Err Memory) old new e reads is = absurd (false≢true (subst (λ (q : Result (List ℕ × Stand) FieldError). IsOk q) is reads.0))

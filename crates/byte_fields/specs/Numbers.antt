@@ -13,7 +13,7 @@ abbrev pub with_low : ℕ → Result (ℕ × List ℕ) NumberFault → Result (�
 with_low group (Ok x) = if x.0 == 0 then Err Long else Ok (group - 128 + 128 * x.0, x.1)
 with_low group (Err fault) = Err fault
 
--- The number at the front, and the bytes behind it. At most so many groups stand before the last one.
+-- The number at the front, and the bytes after it. At most so many groups stand before the last one.
 unfoldable pub number_at : ℕ → List ℕ → Result (ℕ × List ℕ) NumberFault
 number_at more [] = Err Short
 number_at zero (group ∷ rest) = if nat_lt 1 group then Err Long else Ok (group, rest)

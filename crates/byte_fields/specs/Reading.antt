@@ -21,16 +21,16 @@ left s = drop s.at s.whole
 abbrev pub AreBytes : List ℕ → Type 0
 AreBytes bytes = (i : ℕ) → slice_index bytes i < 256
 
--- a place in these bytes, or the one behind the last of them
+-- a place in these bytes, or the one after the last of them
 pub record IsWithin (bytes : List ℕ) (at : ℕ) : Type 0 where
   pub bytes_fit : AreBytes bytes
   pub no_further : at ≤ length bytes
 
--- the place behind so many more bytes
+-- the place after so many more bytes
 abbrev pub ahead : ℕ → Stand → Stand
 ahead n s = record { whole = s.whole; at = s.at + n }
 
--- The bytes from the old place on are this spelling, and the new place is the one behind it.
+-- The bytes from the old place on are this encoding, and the new place is the one after it.
 pub record MovesPast (spelling : List ℕ) (old new : Stand) : Type 0 where
   pub spelled : left old ≡ spelling ++ left new
   pub place : new ≡ ahead (length spelling) old

@@ -1,4 +1,4 @@
-//! A place in a slice of bytes, and the fields there.
+//! A place in a slice of bytes, and the fields there: what `reader` reads by.
 
 ghost use Rattle.std.specs.Prelude.{◌≡◌, ◌≤◌, length, IfOk};
 ghost use Rattle.byte_fields.specs.Reading.{IsWithin, Reads, MayRead, raw_at, byte_at, fixed32_at, fixed64_at, var_at, zigzag_at, text_at};

@@ -1,4 +1,4 @@
-//! Why a field could not be read.
+//! Why a field could not be read: what a reader of a format makes its own refusal of.
 
 use thiserror::Error;
 

@@ -1,10 +1,13 @@
-//! Laws about the spellings themselves.
+//! A theorem about the encodings themselves.
+//!
+//! The function has an empty body: its contract is the statement, and its proof stands in `proofs/laws/`. Nothing
+//! calls it; proofs about the log, the list and the blocks cite the lemmas, of `proofs/FieldLaws.antt`.
 
 ghost use Rattle.std.specs.Prelude.{◌≡◌, ℕ, ℤ, ◌<◌, ◌^◌, ◌++◌, List, length, FitsSigned};
 ghost use Rattle.std.specs.Int.{w64};
 ghost use Rattle.byte_fields.specs.Spelling.{fixed32_bytes, fixed64_bytes, var_bytes, zigzag_bytes, text_bytes};
 
-/// Each spelling is that of one value, and none begins another, so what follows a field does not change its value.
+/// Each encoding is that of one value, and none begins another, so what follows a field does not change its value.
 pub fn one_value()
     ensures fixed32 { (m n : ℕ) (x y : List ℕ) → m < 2 ^ 32 → n < 2 ^ 32 → fixed32_bytes m ++ x ≡ fixed32_bytes n ++ y → (m ≡ n) × (x ≡ y) }
     ensures fixed64 { (m n : ℕ) (x y : List ℕ) → m < 2 ^ 64 → n < 2 ^ 64 → fixed64_bytes m ++ x ≡ fixed64_bytes n ++ y → (m ≡ n) × (x ≡ y) }

@@ -12,7 +12,7 @@ pub enum NumberFault {
     Long,
 }
 
-/// The number at the front, and the bytes behind it. At most `more` groups may follow its first one.
+/// The number at the front, and the bytes after it. At most `more` groups may follow its first one.
 #[tactic(auto, unfolding(crate::specs::Numbers::number_at))]
 pub fn number_of(bytes: &[u8], more: u32) -> Result<(u64, &[u8]), NumberFault>
     requires { more ≤ 9 }

@@ -17,7 +17,7 @@ use std::marker::Model;
 
 /// A reader of fields, which contracts see as all of its bytes and the place of the next one.
 ///
-/// Each call reads one field and moves behind it. A call that is refused leaves the reader where it was. The clause
+/// Each call reads one field and moves past it. A call that is refused leaves the reader where it was. The clause
 /// `reads` of each call names the whole answer, for grammars of several fields; the others say what it comes to.
 #[derive(Drop)]
 pub struct Reader<'a> {
@@ -44,7 +44,7 @@ impl<'a> Reader<'a> {
         }
     }
 
-    /// A reader at a later place of the bytes, or behind the last of them.
+    /// A reader at a later place of the bytes, or after the last of them.
     pub fn starting_at(alloc: Global, bytes: &'a [u8], at: u64) -> Reader<'a>
         requires { at ≤ length bytes.now }
         ensures { result ≡ record { whole = bytes.now; at = at } }

@@ -9,7 +9,7 @@ use std::marker::Model;
 
 /// A writer of fields, which contracts see as the bytes written so far.
 ///
-/// A call adds the one spelling of its value, or wants memory and leaves the writer as it was.
+/// A call adds the one encoding of its value, or runs out of memory and leaves the writer as it was.
 #[derive(Drop)]
 pub struct Writer {
     bytes: Vec<u8>,

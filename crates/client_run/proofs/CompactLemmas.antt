@@ -192,7 +192,7 @@ more (Writing job bytes info) h = (refl, refl, tt)
 more (Failing job why) h = (refl, refl, tt)
 more (Ended r) h = absurd h
 
--- A step behind which the round goes on.
+-- A step after which the round goes on.
 pub compaction_goes_on : {P : Type 0} (meaning : Meaning P) (old new : P) (items : List (Option Look)) (tasks : Tasks) (after : Task)
     → HaveOwnFiles meaning old → Steps meaning tasks.compaction old after new → Fits meaning after new → (FindsBlocks meaning tasks.compaction old → FindsBlocks meaning after new)
     → Answers step.More after → IsReady meaning old (looks_of items) tasks

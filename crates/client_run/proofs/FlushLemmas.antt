@@ -197,7 +197,7 @@ more (Writing job bytes info) h = (refl, refl, tt)
 more (Failing job why) h = (refl, refl, tt)
 more (Ended r) h = absurd h
 
--- A step behind which the round goes on.
+-- A step after which the round goes on.
 pub flush_goes_on : {P : Type 0} (meaning : Meaning P) (old new : P) (items : List (Option Look)) (tasks : Tasks) (after : Task)
     → HaveOwnFiles meaning old → Steps meaning tasks.flush old after new → Fits meaning after new → Answers step.More after → IsReady meaning old (looks_of items) tasks
     → HasAnswered meaning old (looks_of items) tasks FlushStep (Stepped step.More) new (looks_of items) (record { flush = after; compaction = tasks.compaction })

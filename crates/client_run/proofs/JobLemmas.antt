@@ -1,4 +1,4 @@
--- What a flush and a compaction stand on stays behind calls that aren't their own.
+-- What a flush and a compaction stand on stays after calls that aren't their own.
 use Rattle.std.proofs.Common.{◌≡◌, ℕ, List, [], ◌∷◌, Bool, true, false, sym, ◌∙◌, ap, subst}
 use Rattle.std.specs.Prelude.{IsTrue, ◌||◌}
 use Rattle.compactor.proofs.BlockLaws.{StaySame, first_stays, rest_stays, rows_stay}
@@ -38,7 +38,7 @@ EndsNoCompaction e r = (job : CompactParts) → ends e r (OpenCompact job) ≡ f
 abbrev pub LeavesBlocks : {P : Type 0} → Meaning P → P → event → reply → Type 0
 LeavesBlocks meaning port e r = (job : CompactJob) → IsOpen meaning port (compact_of job) → (file : ℕ) → is_among file (files_of (compact_of job)) ≡ true → Untouched e r file
 
--- a file of what is open is as it was behind a call that doesn't write to it
+-- a file of what is open is as it was after a call that doesn't write to it
 same_file : {P : Type 0} (meaning : Meaning P) (old new : P) (e : event) (r : reply) (hold : Hold) (file : ℕ) → Called meaning old e r new → ends e r hold ≡ false
     → Untouched e r file → IsOpen meaning old hold → is_among file (files_of hold) ≡ true → IsTrue (meaning.tells new) → meaning.shows new file ≡ meaning.shows old file
 same_file meaning old new e r hold file called none same is_open among tells =

@@ -24,7 +24,7 @@ run_begins meaning port holds = record {
   found = λ known. ((tt, known), λ tells. tt);
 }
 
--- What is open behind an event.
+-- What is open after an event.
 pub ready_then : {P : Type 0} (meaning : Meaning P) (old new : P) (looks later : Looks) (tasks after : Tasks) (e : Event) (r : EventReply)
     → IsReady meaning old looks tasks → HasAnswered meaning old looks tasks e r new later after → IsReady meaning new later after
 ready_then meaning old new looks later tasks after e r ready one = record {

@@ -96,7 +96,7 @@ IsMetricsTold m answer r = AreSeriesTold m.start m.end m.step m.rate answer r
 
 -- ---- upkeep
 
--- A cut is told how many rows it moved, or that memory was wanted.
+-- A cut is answered how many rows it moved, or that memory ran out.
 abbrev pub cut_reply : (ℕ → Reply) → Result ℕ Memory → Reply
 cut_reply tells (Ok moved) = tells moved
 cut_reply tells (Err e) = Refused refusal.Memory
@@ -161,7 +161,7 @@ TellsHistory h later (request.Metrics m) r =
 TellsHistory h later request.Compact r = (round : Round) × (r ≡ compact_reply round) × FoundBlocks round
 TellsHistory h later _ r = Unit {0}
 
--- A request was answered over a port: the port's calls are just those that the request makes. Where the port tells its bytes, a
+-- A request was answered over a port: the port's calls are just those that the request makes. Where the port shows its bytes, a
 -- query's answer is that of the history that is known afterwards, as it was at some length from that on which was known before; and
 -- each block that was read is one.
 pub record HasReplied {P : Type 0} (meaning : Meaning P) (old : P) (asked : Request) (r : Reply) (new : P) : Type 0 where

@@ -83,12 +83,12 @@ abbrev pub from_there : {S : Type 0} → S → S → Option Round → S
 from_there first reached (Some round) = first
 from_there first reached None = reached
 
--- What is told of a step behind which the round has ended so, or goes on.
+-- What is told of a step after which the round has ended so, or goes on.
 abbrev pub step_reply : Option Round → EventReply
 step_reply (Some round) = Stepped (step.Ended round)
 step_reply None = Stepped step.More
 
--- A step makes one call with which the round goes on: whatever calls lead on from the stage after it lead on, behind this one,
+-- A step makes one call with which the round goes on: whatever calls lead on from the stage after it lead on, after this one,
 -- from the stage before it.
 abbrev pub IsStepAnswered : {S : Type 0} → (S → List Call → Round → Type 0) → (S → Option Round) → S → S → EventReply → List Call → S → Type 0
 IsStepAnswered {S} leads ended first before r calls after =

@@ -76,7 +76,7 @@ FlushFinds (flush_stage.Failing number why) = FoundBlocks (Refused why)
 FlushFinds (flush_stage.Ended round) = FoundBlocks round
 FlushFinds _ = Unit {0}
 
--- Neither finds a block to be none; the compaction where bytes are told.
+-- Neither finds a block to be none; the compaction where bytes are shown.
 abbrev pub FindBlocks : {P : Type 0} → Meaning P → Tasks → P → Type 0
 FindBlocks meaning tasks port =
     FlushFinds (flush.stage_of tasks.flush) × compaction.FindsBlocks meaning tasks.compaction port
@@ -92,7 +92,7 @@ pub record IsReady {P : Type 0} (meaning : Meaning P) (port : P) (looks : Looks)
   pub going : AreGoing tasks
 
 -- One event was answered so, and left these looks, this flush and this compaction. Where a history was known and neither of
--- the two finds a block to be none, neither does behind it, and nor does its reply where bytes are told.
+-- the two finds a block to be none, neither does after it, and nor does its reply where bytes are shown.
 pub record HasAnswered {P : Type 0} (meaning : Meaning P) (old : P) (looks : Looks) (tasks : Tasks) (event : Event) (reply : EventReply) (new : P) (later : Looks) (after : Tasks) : Type 0 where
   pub calls : List Call
   pub made : AreMade meaning old calls new

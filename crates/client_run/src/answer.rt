@@ -1,4 +1,5 @@
-//! What a request is answered over a port.
+//! Answering a request by calls of a port, and what each answer of the port becomes as a reply. `trace_shell` calls it
+//! for each line.
 
 ghost use Rattle.std.specs.Prelude.{◌≡◌, ◌^◌, ◌<◌, ◌≤◌, List, length};
 ghost use Rattle.store_model.specs.Holds.{Hold};
@@ -22,9 +23,9 @@ use traceql_metrics::series;
 /// Answers a request over a port, for the client with this number.
 ///
 /// A push, a cut and the emptying of loose files are one call each, and a flush and a compaction are one round each. A
-/// look-up, a search or a metrics query takes one look, reads the blocks that it pins and gives it back. Out of memory a request is
-/// refused for that; whether a push was refused the port says. The gate is passed at twice the client's number before a
-/// search or a metrics query is evaluated, and at one more after each push that was accepted.
+/// look-up, a search or a metrics query takes one look, reads the blocks that it pins and gives it back. Out of memory
+/// a request is refused for that; whether a push was refused the port says. The gate is passed at twice the client's
+/// number before a search or a metrics query is evaluated, and at one more after each push that was accepted.
 pub fn answer_request<P: Port, G: Gate>(
     alloc: Global,
     port: &mut P,
@@ -129,7 +130,7 @@ fn flush<P: FlushPort>(alloc: Global, port: &mut P) -> Reply
     flush_reply(flush_round(alloc, port))
 }
 
-// What is told of a flush's round.
+// How a round ended, as a reply. A refusal of a round is one of requests too, with the same words.
 fn flush_reply(round: Round) -> Reply
     ensures { result ≡ flush_reply round }
 {
@@ -148,7 +149,7 @@ fn compact<P: Port>(alloc: Global, port: &mut P) -> Reply
     compact_reply(compact_round(alloc, port))
 }
 
-// What is told of a compaction's round.
+// The same of a compaction, which says as well how many blocks it joined.
 fn compact_reply(round: Round) -> Reply
     ensures { result ≡ compact_reply round }
 {
@@ -201,7 +202,7 @@ fn trace<P: FlushPort>(alloc: Global, port: &mut P, id: TraceId) -> Reply
     trace_reply(find_trace(alloc, port, id))
 }
 
-// What is told of a trace.
+// The rows that were found, as a reply. A trace without spans is one too, and no refusal.
 fn trace_reply(answer: Result<TraceAnswer, QueryError>) -> Reply
     ensures { result ≡ trace_reply answer }
 {
@@ -221,7 +222,7 @@ fn search<P: FlushPort>(alloc: Global, port: &mut P, asks: Search) -> Reply
     search_reply(alloc, &asked, answer)
 }
 
-// What is asked of a store.
+// The search of a request is that of a store: two types, since a store knows no lines.
 fn asked_of(asks: Search) -> Asked
     ensures { result ≡ asked_of asks }
 {
@@ -239,7 +240,7 @@ fn asked_of(asks: Search) -> Asked
     }
 }
 
-// What is told of a search.
+// What was found, as a reply, with the names of the fields that its spans show. They take memory of their own.
 fn search_reply(alloc: Global, asked: &Asked, answer: Result<SearchAnswer, QueryError>) -> Reply
     ensures { IsSearchTold asked.now answer result }
 {
@@ -267,7 +268,7 @@ fn metrics<P: FlushPort>(alloc: Global, port: &mut P, asks: Metrics) -> Reply
     series_reply(alloc, start, end, step, rate, answer)
 }
 
-// What a metrics query asks of a store.
+// What a metrics query asks of a store: a search of its range without limits, so that each span is counted.
 fn counted_of(asks: Metrics) -> Asked
     ensures { result ≡ counted_of asks }
 {
@@ -283,7 +284,7 @@ fn counted_of(asks: Metrics) -> Asked
     }
 }
 
-// What is told of the series of what was found.
+// The spans that were found are counted here, after the look was given back.
 fn series_reply(
     alloc: Global,
     start: u64,

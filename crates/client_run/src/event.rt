@@ -1,4 +1,4 @@
-//! Events and their replies, as plain values.
+//! Events of a store and their replies, as plain values, so that a test can write a list of them.
 
 use span_types::{Batch, Bytes, Failed, Memory, Rows, Seq};
 use store_state::{PushError, ReclaimError, Step};
@@ -20,7 +20,7 @@ pub enum Event {
     },
     /// All live traces are moved to the head.
     CutAll,
-    /// The next step of a flush. One step after another they make whole rounds: a step behind the end of a round begins
+    /// The next step of a flush. One step after another they make whole rounds: a step after the end of a round begins
     /// the next.
     FlushStep,
     /// The next step of a compaction, in the same way. A page that a compaction reads is a step too.

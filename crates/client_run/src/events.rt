@@ -1,4 +1,5 @@
-//! Lists of events.
+//! Running lists of events on a port, one after another, for tests: rounds of flush and compaction go on step by step
+//! between other events.
 
 ghost use Rattle.std.specs.Prelude.{◌≡◌, List, Option, IfOk, OnErr};
 ghost use Rattle.store_model.specs.Holds.{Hold};
@@ -26,7 +27,7 @@ use store_state::{FlushPort, Look, LookPort, Port, Step};
 /// memory the events so far have happened. The looks that aren't given back keep their pins, and a flush or a
 /// compaction that isn't at its end stays open.
 ///
-/// Where the port tells its bytes, and knows a history as the run begins, no step finds a block to be malformed.
+/// Where the port shows its bytes, and knows a history as the run begins, no step finds a block to be malformed.
 pub fn run_events<P: OwnFiles>(
     alloc: Global,
     port: &mut P,
@@ -101,7 +102,7 @@ fn cut_all<P: FlushPort>(port: &mut P) -> EventReply
     EventReply::CutAll(port.cut_all())
 }
 
-// Makes the next step of the flush. Behind the end of a round stands a flush that has made none.
+// Makes the next step of the flush. After the end of a round stands a flush that has made none.
 fn flush_step<P: OwnFiles>(alloc: Global, port: &mut P, tasks: &mut Tasks) -> EventReply
     requires { (looks : Looks) × IsReady P.meaning port.old looks tasks.old }
     ensures { (items : List (Option Given)) → IsReady P.meaning port.old (looks_of items) tasks.old →
@@ -117,7 +118,7 @@ fn flush_step<P: OwnFiles>(alloc: Global, port: &mut P, tasks: &mut Tasks) -> Ev
     }
 }
 
-// Makes the next step of the compaction. Behind the end of a round stands a compaction that has made none.
+// Makes the next step of the compaction. After the end of a round stands a compaction that has made none.
 fn compact_step<P: OwnFiles>(alloc: Global, port: &mut P, tasks: &mut Tasks) -> EventReply
     requires { (looks : Looks) × IsReady P.meaning port.old looks tasks.old }
     ensures { (items : List (Option Given)) → IsReady P.meaning port.old (looks_of items) tasks.old →
@@ -180,7 +181,7 @@ fn read_page<P: FlushPort>(
     }
 }
 
-// A page's bytes.
+// A copy of a page: the port filled a buffer of the caller's, and a reply has bytes of its own.
 fn page_bytes(alloc: Global, page: &[u8]) -> Result<Bytes, Memory>
     ensures { IfOk result (λ bytes. bytes ≡ page.now) }
 {

@@ -1,4 +1,8 @@
-//! What calls make of a core.
+//! Theorems about the calls that are made on a core: they are steps of the machine that it stands for.
+//!
+//! Each function has an empty body: its contract is the statement, and its proof stands in `proofs/laws/`. `own_files`
+//! calls the last to have its contract, and nothing calls the others; proofs of `session_meaning` and `trace_shell`
+//! cite the lemmas of the first. The parameters name the core, before and after the calls.
 
 ghost use Rattle.std.specs.Prelude.{◌≡◌, List, [], ℕ};
 ghost use Rattle.store_model.specs.Step.{Machine};
@@ -13,8 +17,8 @@ ghost use Rattle.client_run.specs.OwnFiles.{HaveOwnFiles};
 use disk_model::Device;
 use store_core::Core;
 
-/// Calls that were made on a core are legal from each machine that it stood for, and the core then stands for the machine that
-/// they leave; and so of the machines that its memory shows, whatever its disk holds.
+/// Calls that were made on a core are legal from each machine that it stood for, and the core then stands for the
+/// machine that they leave; and so of the machines that its memory shows, whatever its disk holds.
 pub fn calls_are_steps<D: Device>(old: &Core<D>, new: &Core<D>)
     ensures stands { (calls : List Call) → AreMade (port_of D.Device.own) old.now calls new.now → (m : Machine)
         → CoreStandsFor D.Device.own old.now m

@@ -1,8 +1,13 @@
 //! What a client's requests are answered by a store's port, and lists of events that are run on one.
 //!
-//! The entry points are `answer_request`, whose promise is `HasReplied` of `specs/Answers.antt`, and `run_events`, whose promise is
-//! `HasRun` of `specs/EventRuns.antt`. Both speak of the calls that were made on the port (`specs/Calls.antt`); `specs/CoreRuns.antt`
-//! says what calls make of a store over a disk.
+//! - Requests, the program's way: `answer`, by calls of the port, of `query_fanout`, `flusher` and `compactor`.
+//! - Lists of events, which only tests run: `events`, over `event` (events and replies as values), `taken` (the looks
+//!   of a run), `tasks` (its flush and its compaction) and `own_files` (what it asks of a port).
+//! - `laws` holds theorems: what calls make of a core.
+//!
+//! The entry points are `answer_request`, whose promise is `HasReplied` of `specs/Answers.antt`, and `run_events`,
+//! whose promise is `HasRun` of `specs/EventRuns.antt`. Both speak of the calls that were made on the port
+//! (`specs/Calls.antt`); `specs/CoreRuns.antt` says what calls make of a store over a disk.
 #![tactic(auto)]
 
 mod answer;

@@ -1,4 +1,5 @@
-//! Ports whose open jobs have files of their own.
+//! What a run of events asks of its port besides the calls: that open jobs have files of their own. Only `events`
+//! needs it.
 
 ghost use Rattle.client_run.specs.OwnFiles.{HaveOwnFiles};
 

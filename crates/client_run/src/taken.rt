@@ -1,4 +1,4 @@
-//! The looks of a run of events.
+//! The looks that a run of events has taken: which are open, and which blocks their pins name.
 
 ghost use Rattle.std.specs.Prelude.{◌≡◌, ◌==◌, Some, None, map, option_map, if◌then◌else◌, IfSome, IfNone, true};
 ghost use Rattle.std.specs.List.{list_any};

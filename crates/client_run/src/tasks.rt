@@ -1,4 +1,4 @@
-//! The flush and the compaction of a run of events.
+//! The flush and the compaction of a run of events, each as far as its steps were made.
 
 ghost use Rattle.std.specs.Prelude.{◌≡◌};
 ghost use Rattle.client_run.specs.Taken.{no_steps};

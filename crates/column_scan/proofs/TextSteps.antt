@@ -121,7 +121,7 @@ first_left p texts n old new text left next =
 one_more : (count i : ℕ) → i < count → count - i ≡ suc (count - (i + 1))
 one_more count i low = omega (arith, low)
 
--- the texts are read behind their number
+-- the texts are read after their number
 pub all_left : (p : List ℕ → Bool) (bytes : List ℕ) (first reader : Stand) (count n : ℕ) → ((s : Spot) → content_spot bytes ≡ Ok s → s.stand ≡ first) → IsNextCount first count reader → n ≡ count
     → (texts : List (List ℕ)) → texts_of bytes ≡ Ok texts → AreLeft p texts n reader
 unfolding texts_of

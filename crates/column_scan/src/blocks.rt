@@ -1,4 +1,5 @@
-//! The traces of a block that have sifted spans.
+//! A block at once: the traces that have sifted spans, all stripes in one go. `scans` does the same in parts, as a
+//! search does it.
 
 ghost use Rattle.std.specs.Prelude.{◌≡◌, IfOk, IsTrue, List, map};
 ghost use Rattle.span_types.specs.declared.spans.Row.{Row};
@@ -63,8 +64,8 @@ fn traces_of(alloc: Global, picks: &[Pick]) -> Result<Vec<TraceId>, Memory>
 /// The traces that have a sifted row in a block, each once, in ascending order.
 ///
 /// With a text each stripe is read, without one those of which a moment can be in the range, each page once.
-/// [`ReadError::NotBlock`] comes only if the pages are no block that the information describes, at the first byte of the
-/// file where a stripe is malformed whose rows had to be made. A malformed stripe may be passed over.
+/// [`ReadError::NotBlock`] comes only if the pages are no block that the information describes, at the first byte of
+/// the file where a stripe is malformed whose rows had to be made. A malformed stripe may be passed over.
 pub fn picks_of_block<P: Pages>(
     alloc: Global,
     pages: &mut P,

@@ -1,4 +1,5 @@
-//! What columns of a fixed width tell of spans.
+//! What columns of a fixed width say of a span: a thin span that has these columns and nothing else, to test a filter
+//! on.
 
 ghost use Rattle.column_scan.specs.Sifting.{HasColumns};
 

@@ -1,4 +1,4 @@
-//! The traces of a stripe of which no row is made.
+//! The traces of a stripe of which no row is made: its first columns say which rows are sifted.
 
 ghost use Rattle.std.specs.Prelude.{◌≡◌, ◌+◌, ◌<◌, ◌++◌, ◌∷◌, [], Bool, IfOk, IfSome, IsTrue, List, None, OnOk, Some, length, slice_get};
 ghost use Rattle.std.specs.List.{list_any};
@@ -20,8 +20,8 @@ use span_types::{Memory, TraceId};
 use std::alloc::Global;
 use stripe_glances::{Glance, glance};
 
-/// What is told of a stripe by its first columns, if that can tell what is sifted: not for a text alone. None says nothing: they
-/// can't be of a stripe with this entry, or memory was wanted.
+/// What is told of a stripe by its first columns, if that can tell what is sifted: not for a text alone. None says
+/// nothing: they can't be of a stripe with this entry, or memory ran out.
 pub(crate) fn glance_of(
     alloc: Global,
     bytes: &[u8],
@@ -41,8 +41,8 @@ pub(crate) fn glance_of(
     Some(seen)
 }
 
-// Whether the columns can be those of a stripe with this entry. A malformed stripe is to be told as such, and what is told of it
-// mostly doesn't fit.
+// Whether the columns can be those of a stripe with this entry. A malformed stripe is to be reported as such, and what
+// is read of it mostly doesn't fit.
 fn fits(glance: &Glance, entry: &StripeInfo) -> bool
     ensures { IsTrue result → HasRows glance.now }
 {

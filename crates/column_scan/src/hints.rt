@@ -59,7 +59,7 @@ fn has_text(text: &Text, attrs: &Attrs) -> bool
         .any(|attr| is_text(text, &attr.value))
 }
 
-// Whether a value is this text.
+// A number and a boolean are no text, whatever they are printed as.
 fn is_text(text: &Text, value: &AttrValue) -> bool
     ensures { result ≡ is_text text.now value.now }
 {

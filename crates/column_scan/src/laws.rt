@@ -1,4 +1,7 @@
-//! Laws of hints, sieves and picks: no trace that a query answers is left out.
+//! Theorems about hints, sieves and picks: no trace that a query answers is left out.
+//!
+//! Each function has an empty body: its contract is the statement, and its proof stands in `proofs/laws/`. A theorem
+//! of `query_fanout` calls `answered_is_picked` to have its contract; nothing calls the others.
 
 ghost use Rattle.column_scan.specs.Hints.{AnswersHoldText};
 ghost use Rattle.column_scan.specs.Sieves.{AnsweredIsPicked, ColumnsTell};

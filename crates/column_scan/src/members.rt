@@ -1,4 +1,4 @@
-//! The sieve of a query.
+//! The sieve of a query: from its tree to those members of its filter that columns can answer.
 
 ghost use Rattle.std.specs.Prelude.{◌≡◌, ◌++◌, [], IfOk, OnOk, if◌then◌else◌};
 ghost use Rattle.traceql_syntax.specs.Trees.{placed_option, query_tree, set_tree, tree};
@@ -14,10 +14,10 @@ use traceql_syntax::{Field, FieldExpr, Operand, SpansetExpr};
 use traceql_tokens::Intrinsic;
 use traceql_types::Checked;
 
-/// The sieve of a query that is searched for in a range: its hint and, if one filter is all that spans are selected by, those
-/// members of that filter's chain of `&&` that ask for a span's kind, its status and its duration alone. Without a text, and
-/// with moments out of the range, there are no members: the span that the filter keeps needn't be the one that starts in the
-/// range. The one error is out of memory.
+/// The sieve of a query that is searched for in a range: its hint and, if one filter is all that spans are selected
+/// by, those members of that filter's chain of `&&` that ask for a span's kind, its status and its duration alone.
+/// Without a text, and with moments out of the range, there are no members: the span that the filter keeps needn't be
+/// the one that starts in the range. The one error is out of memory.
 pub fn sieve<'q>(alloc: Global, checked: &'q Checked, range: Range) -> Result<Sieve<'q>, Memory>
     ensures { IfOk result (λ s. s ≡ sieve_of checked.now.patterns (query_tree checked.now.query) range) }
 {
@@ -52,14 +52,14 @@ fn hints_the_kept(hint: &Hint) -> bool
     hint.text.is_some() || has_all_moments(hint.range)
 }
 
-// Whether each moment is in the range.
+// Whether the search has neither start nor end: then whatever span a filter keeps is hinted.
 fn has_all_moments(range: Range) -> bool
     ensures { result ≡ has_all_moments range }
 {
     range.from == 0 && range.until.is_none()
 }
 
-// The members of an expression over spansets.
+// An operator between spansets has none: which of its sides a span has to meet isn't asked here.
 fn set_members<'q>(alloc: Global, spansets: &'q SpansetExpr) -> Result<Vec<&'q FieldExpr>, Memory>
     ensures { IfOk result (λ members. trees_of members.items ≡ set_members (set_tree spansets.now)) }
 {
@@ -69,7 +69,7 @@ fn set_members<'q>(alloc: Global, spansets: &'q SpansetExpr) -> Result<Vec<&'q F
     }
 }
 
-// The members of a filter.
+// A filter without a condition has none.
 fn filter_members<'q>(
     alloc: Global,
     condition: &'q Option<Operand>,

@@ -1,4 +1,4 @@
-//! The traces of one stripe that have sifted spans.
+//! One stripe: the traces that have sifted spans, by its entry, its texts, its first columns and at last its rows.
 
 ghost use Rattle.std.specs.Prelude.{◌≡◌, ◌+◌, ◌^◌, ◌<◌, ◌++◌, [], ◌∷◌, IfOk, IsTrue, List, None, Ok, OnOk, false};
 ghost use Rattle.span_types.specs.declared.spans.Row.{Row};
@@ -27,8 +27,8 @@ use span_types::{Memory, Row, TraceId};
 use std::alloc::Global;
 use stripe_glances::Glance;
 
-/// Adds the traces that have a sifted row in a stripe, which is read only if it may have one, and tells the trace of the last row
-/// if something of its rows was read.
+/// Adds the traces that have a sifted row in a stripe, which is read only if it may have one, and gives the trace of
+/// the last row if something of its rows was read.
 pub(crate) fn add_stripe<P: Pages>(
     alloc: Global,
     pages: &mut P,
@@ -63,8 +63,8 @@ pub(crate) fn add_stripe<P: Pages>(
     }
 }
 
-// Adds the traces of the sifted rows that the bytes of a stripe's pages stand for, and tells the trace of the last row, if more
-// than the texts was read. Rows are made only where it isn't sure without them.
+// Adds the traces of the sifted rows that the bytes of a stripe's pages stand for, and gives the trace of the last
+// row, if more than the texts was read. Rows are made only where it isn't sure without them.
 fn add_bytes(
     alloc: Global,
     block: u32,
@@ -96,8 +96,8 @@ fn add_bytes(
     }
 }
 
-// Adds the traces of the sifted rows by what is told of the stripe, and says whether that was all: a row that may hold the
-// text is to be made.
+// Adds the traces of the sifted rows by what was read of the stripe, and says whether that was all: a row that may
+// hold the text is to be made.
 fn add_glanced(
     sifter: &mut Sifter<'_, '_>,
     glance: &Glance,
@@ -146,7 +146,7 @@ fn add_made(
     }
 }
 
-// Adds the traces of the rows that are sifted, and tells that of the last one.
+// Adds the traces of the rows that are sifted, and gives that of the last one.
 fn add_rows(
     sifter: &mut Sifter<'_, '_>,
     rows: &[Row],

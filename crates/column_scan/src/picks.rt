@@ -1,4 +1,4 @@
-//! The traces that have sifted spans.
+//! The traces that have sifted spans, of spans in memory; and lists of picks in order, each trace once.
 
 ghost use Rattle.std.specs.Prelude.{◌≡◌, ◌++◌, [], ◌∷◌, All, IfOk, OnOk, map, true};
 ghost use Rattle.std.specs.List.Sorted.{IsPermutation, IsSorted};

@@ -1,4 +1,4 @@
-//! The hint of a query.
+//! The hint of a query: from its tree to a range and a text.
 
 ghost use Rattle.std.specs.Prelude.{◌≡◌, ◌++◌, ◌<◌, IfOk, MatchOption};
 ghost use Rattle.std.specs.Option.{option_map, option_or};
@@ -15,9 +15,9 @@ use traceql_syntax::{BinaryOp, Comparison, Field, FieldExpr, Literal, Operand, S
 use traceql_tokens::{AttributeScope, Intrinsic};
 use traceql_types::Checked;
 
-/// The hint of a query that is searched for in a range. It has a text if one filter is all that spans are selected by, and
-/// in that filter's chain of `&&` a member asks for a name, or for an attribute of the span or of its resource, to be equal
-/// to a string: the first such string. The one error is out of memory.
+/// The hint of a query that is searched for in a range. It has a text if one filter is all that spans are selected by,
+/// and in that filter's chain of `&&` a member asks for a name, or for an attribute of the span or of its resource, to
+/// be equal to a string: the first such string. The one error is out of memory.
 pub fn hint(checked: &Checked, range: Range) -> Result<Hint, Memory>
     ensures { IfOk result (λ h. h ≡ hint_of (query_tree checked.now.query) range) }
 {
@@ -45,7 +45,7 @@ fn set_text(spansets: &SpansetExpr) -> Option<&Text>
     }
 }
 
-// The text of a filter.
+// A filter without a condition asks for none.
 fn filter_text(condition: &Option<Operand>) -> Option<&Text>
     ensures { option_map (λ t. t.now) result ≡ filter_text (placed_option condition.now) }
 {
@@ -137,7 +137,7 @@ fn asked_text<'q>(field: &Field, literal: &'q Literal) -> Option<&'q Text>
     None
 }
 
-// The text that a literal is.
+// Other literals than texts make no hint, since a hint tests texts alone.
 fn text_of(literal: &Literal) -> Option<&Text>
     ensures { option_map (λ t. t.now) result ≡ text_of literal.now }
 {

@@ -27,11 +27,11 @@ pub struct Progress {
     pub last: Option<TraceId>,
 }
 
-/// Adds the traces that have a sifted row in the stripes from one on, in the order of the rows, until there are enough picks or no
-/// stripe is left. Without `most` there are never enough.
+/// Adds the traces that have a sifted row in the stripes from one on, in the order of the rows, until there are enough
+/// picks or no stripe is left. Without `most` there are never enough.
 ///
-/// It reads as [`picks_of_block`](crate::picks_of_block) does, with the same errors. If it stops before the last stripe, the trace is
-/// told up to which all rows are gone through, unless there were enough picks before.
+/// It reads as [`picks_of_block`](crate::picks_of_block) does, with the same errors. If it stops before the last
+/// stripe, the trace is given up to which all rows are gone through, unless there were enough picks before.
 pub fn scan_stripes<P: Pages>(
     alloc: Global,
     pages: &mut P,

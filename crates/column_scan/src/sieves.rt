@@ -11,7 +11,8 @@ use std::marker::Model;
 use traceql_syntax::FieldExpr;
 use traceql_types::Checked;
 
-/// What a search asks of single spans: a hint, and conditions on kind, status and duration that the hinted span meets as well.
+/// What a search asks of single spans: a hint, and conditions on kind, status and duration that the hinted span meets
+/// as well.
 #[derive(Drop)]
 pub struct Sieve<'q> {
     pub(crate) hint: Hint,

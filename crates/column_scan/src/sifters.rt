@@ -19,7 +19,8 @@ use traceql_syntax::FieldExpr;
 use traceql_types::Checked;
 use traceql_value::{EvalContext, Matchers};
 
-/// A sieve that is ready to test spans. The patterns of its query are made ready once, and not at all if it has no members.
+/// A sieve that is ready to test spans. The patterns of its query are made ready once, and not at all if it has no
+/// members.
 #[derive(Drop)]
 pub struct Sifter<'s, 'q> {
     sieve: &'s Sieve<'q>,

@@ -74,7 +74,7 @@ no_id : level_fault trace_leaf [] nothing_held [] false [] ≡ [] → ⊥
 unfolding walk_fault defaults_fault
 no_id h = cc
 
--- The id's place, behind `--`.
+-- The id's place, after `--`.
 behind_dashes : (rest : List Text) → walk_fault trace_leaf [] (standing nothing_held 1 true) rest ≡ []
     → (rest ≡ []) ⊎ ((id : Text) × (rest ≡ id ∷ []))
 unfolding walked
@@ -216,7 +216,7 @@ unflagged_id id no_dashes no_long no_short = one_clean trace_leaf id (standing (
     end : walked trace_leaf.rules [] (walk_from nothing_held) id ≡ standing (id_held id) 2 false
     end = rw (no_dashes, no_long, no_short) refl
 
--- What stands with the word `--` behind it.
+-- What stands with the word `--` after it.
 followed_id : (id : Text) → bytes_eq id dashes_text ≡ false → long_of id ≡ None → short_of id ≡ None
     → level_fault trace_leaf [] nothing_held (id ∷ dashes_text ∷ []) false [] ≡ []
 unfolding walked defaults_fault

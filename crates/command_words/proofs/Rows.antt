@@ -42,7 +42,7 @@ with_last id how s values (r ∷ rs) fresh = go (bytes_eq r.id id) (with_last id
     go true more fresh = cc
     go false more fresh = ap (λ (xs : List Row). r ∷ xs) (more fresh)
 
--- The row is put behind the others.
+-- The row is put after the others.
 pub set_last : (name : Text) (how : Reading) (value : Text) (rows : List Row) → has_row name rows ≡ false
     → with_values name how CommandLine (value ∷ []) (without name rows) ≡ rows ++ with_values name how CommandLine (value ∷ []) []
 set_last name how value rows fresh =
@@ -64,7 +64,7 @@ found_later id (r ∷ rs) more fresh = go (bytes_eq r.id id) (found_later id rs 
     go true rest fresh = cc
     go false rest fresh = rest fresh
 
--- Rows without the id behind others change nothing.
+-- Rows without the id after others change nothing.
 found_kept : (id : Text) (rows more : List Row) → has_row id more ≡ false → found id (rows ++ more) ≡ found id rows
 found_kept id [] [] fresh = refl
 found_kept id [] (r ∷ rs) fresh = go (bytes_eq r.id id) (found_kept id [] rs) fresh

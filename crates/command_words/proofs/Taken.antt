@@ -183,7 +183,7 @@ asked_clean query rows fresh = ap₂ or_else settles (ap₂ or_else (defaults_cl
     checks : check_fault search_leaf (finished rules (asked query rows).held) false ≡ []
     checks = rw (asked_rows query rows fresh) (asked_checks query rows fresh)
 
--- ---- the words behind `search`
+-- ---- the words after `search`
 
 -- The options that are found, up to each.
 abbrev to_limit : Given → List Row
@@ -256,7 +256,7 @@ rest_rows g words is = ap (λ (w : Walk). finished rules w.held) (rest_walk g wo
 
 -- ---- the whole words
 
--- Words behind a subcommand's name are not looked at.
+-- Words after a subcommand's name are not looked at.
 stopped_clean : (s : Shape) (names : Names) (w : Walk) (name : Text) (kept rest : List Text) → walk_fault s names (record w { stopped = Some (name, kept) }) rest ≡ []
 unfolding walked walk_fault
 stopped_clean s names w name kept [] = refl

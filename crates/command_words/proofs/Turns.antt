@@ -94,7 +94,7 @@ stray_is_fault s h = go s.is_leaf h
     go true e = cc
     go false e = cc
 
--- Behind `--` no word is left over.
+-- After `--` no word is left over.
 pub trailing_none : (s : Shape) (names : Names) (h : Held) (position : ℕ) (rest : List Text) → arg_by_index s.rules position ≡ None
     → walk_fault s names (standing h position true) rest ≡ [] → rest ≡ []
 unfolding walked

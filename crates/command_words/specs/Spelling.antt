@@ -4,12 +4,12 @@ use Rattle.clap.specs.Words.{first_of, first_value, subcommand_of}
 use Rattle.clap.specs.declared.parser.matches.Found.{Found}
 use Rattle.command_words.specs.Table.{words_app}
 
--- The text is a flag: a hyphen with something behind it.
+-- The text is a flag: a hyphen with something after it.
 abbrev pub is_flag : List ℕ → Bool
 is_flag (b ∷ c ∷ cs) = b == 45
 is_flag _ = false
 
--- The word `session`. The word `--`, behind which no word is a flag, may follow it.
+-- The word `session`. The word `--`, after which no word is a flag, may follow it.
 abbrev pub IsSession : List (List ℕ) → Type 0
 IsSession words = (words ≡ codes "session" ∷ []) ⊎ (words ≡ codes "session" ∷ codes "--" ∷ [])
 
@@ -17,7 +17,7 @@ IsSession words = (words ≡ codes "session" ∷ []) ⊎ (words ≡ codes "sessi
 abbrev pub IsIngest : List (List ℕ) → Type 0
 IsIngest words = (words ≡ codes "ingest" ∷ []) ⊎ (words ≡ codes "ingest" ∷ codes "--" ∷ [])
 
--- The word `trace` and the id, which is no flag, or stands behind the word `--`. That word may also follow the id.
+-- The word `trace` and the id, which is no flag, or stands after the word `--`. That word may also follow the id.
 abbrev pub IsTrace : List ℕ → List (List ℕ) → Type 0
 IsTrace id words = ((words ≡ codes "trace" ∷ id ∷ []) × (is_flag id ≡ false))
     ⊎ ((words ≡ codes "trace" ∷ codes "--" ∷ id ∷ [])
@@ -52,7 +52,7 @@ search_line given =
     ++ option_text (codes "end=") given.end
     ++ given.query
 
--- an option in the words, where it is given: its name behind two hyphens, and its value as the next word
+-- an option in the words, where it is given: its name after two hyphens, and its value as the next word
 abbrev pub option_words : List ℕ → Option (List ℕ) → List (List ℕ)
 option_words name None = []
 option_words name (Some value) = (codes "--" ++ name) ∷ value ∷ []
@@ -85,7 +85,7 @@ abbrev pub found_value : List (List ℕ) → List ℕ → Option (List ℕ)
 found_value words name = option_and_then (λ p. first_of name p.1) (subcommand_of words_app words)
 
 -- By `clap`'s definition the words name `search` and give it this. Options may stand in any order and in any form that
--- `clap` takes, as `--limit=5` or behind the query.
+-- `clap` takes, as `--limit=5` or after the query.
 pub record IsSearch (given : Given) (words : List (List ℕ)) : Type 0 where
   pub name : option_map (λ p. p.0) (subcommand_of words_app words) ≡ Some (codes "search")
   pub limit : found_value words (codes "limit") ≡ given.limit

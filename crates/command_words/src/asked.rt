@@ -11,8 +11,8 @@ pub enum Asked {
     Ingest,
     /// Answer one request line.
     Alone {
-        /// The line that the words make: `trace ID`, or `search` with its options and its query. Each stands in it as it
-        /// was given, whatever it says.
+        /// The line that the words make: `trace ID`, or `search` with its options and its query. Each stands in it as
+        /// it was given, whatever it says.
         line: String,
     },
 }

@@ -1,4 +1,4 @@
-//! The command and its subcommands.
+//! The command and its subcommands, as `clap` is told them: what may stand on the command line.
 
 ghost use Rattle.std.specs.Prelude.{◌≡◌, IfOk, false};
 ghost use Rattle.clap.specs.Words.{app_of, rule_of, shape_of};

@@ -1,4 +1,7 @@
-//! What follows from the definition of what words ask.
+//! A theorem about the definition of what words ask: `clap` by its own definition agrees with it.
+//!
+//! The function has an empty body: its contract is the statement, and its proof stands in `proofs/laws/`. Nothing
+//! calls it; proofs of `session_meaning` and `trace_shell` cite the lemmas, of `proofs/Spelled.antt`.
 
 ghost use Rattle.std.specs.Prelude.{◌≡◌, [], All, List, ℕ};
 ghost use Rattle.std.specs.Str.{IsUtf8};

@@ -1,5 +1,8 @@
 //! The words of the program's command line, those after the program's name and the store's folder: one command of the
 //! crate `clap` with a subcommand for each thing that the program does.
+//!
+//! `read` has the entry point, `read_words`, which `trace_shell` calls. `command` builds the command, `asked` is what
+//! words ask, and `line` makes the request line of a look-up or a search.
 #![tactic(auto)]
 
 mod asked;

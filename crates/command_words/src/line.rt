@@ -1,11 +1,12 @@
-//! The request line that words ask for.
+//! The request line that words ask for: `trace ID` and `search ..` of the command line are answered as these lines of
+//! a session.
 
 ghost use Rattle.std.specs.Prelude.{◌≡◌, ◌++◌, IfOk, OnOk, option_map, string_bytes};
 ghost use Rattle.command_words.specs.Spelling.{option_text, search_line, trace_line};
 
 use std::alloc::{AllocError, Global};
 
-/// The request line of a look-up: the word `trace`, one space and the id. It fails only for want of memory.
+/// The request line of a look-up: the word `trace`, one space and the id. It fails only if memory runs out.
 pub(crate) fn trace_line(alloc: Global, id: &str) -> Result<String, AllocError>
     ensures { IfOk result (λ line. string_bytes line ≡ trace_line id.now) }
 {
@@ -15,7 +16,7 @@ pub(crate) fn trace_line(alloc: Global, id: &str) -> Result<String, AllocError>
 }
 
 /// The request line of a search: the word `search`, the options that are there as `limit=..`, `spss=..`, `start=..` and
-/// `end=..` in this order, and the query, with one space between. It fails only for want of memory.
+/// `end=..` in this order, and the query, with one space between. It fails only if memory runs out.
 pub(crate) fn search_line(
     alloc: Global,
     limit: Option<&str>,
@@ -41,7 +42,7 @@ pub(crate) fn search_line(
     Ok(line)
 }
 
-// Puts an option behind a text, and a space behind it.
+// Puts an option after a text, and a space after it.
 fn push_option(line: &mut String, name: &str, value: Option<&str>) -> Result<(), AllocError>
     ensures { OnOk result (string_bytes line.new ≡ string_bytes line.old ++ option_text name.now (option_map (λ s. s.now) value.entry)) }
 {

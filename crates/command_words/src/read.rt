@@ -1,4 +1,4 @@
-//! Reading the words.
+//! Reading the words of the command line: words to what they ask, by `clap`.
 
 ghost use Rattle.std.specs.Prelude.{◌≡◌, ◌≢◌, ℕ, List, [], Some, true, codes, is_some, map, string_bytes};
 ghost use Rattle.std.specs.Prelude.{IfOk, IfErr};
@@ -62,7 +62,7 @@ fn id_of<'a>(given: &ArgMatches<'a>) -> &'a str
     id
 }
 
-// The look-up that is asked for.
+// A look-up is answered as the line `trace ID` of a session, which alone tests the id.
 fn asked_trace(alloc: Global, id: &str) -> Result<Asked, WordsError>
     ensures ok { IfOk result (λ asked. command_of asked ≡ Alone (trace_line id.now)) }
     ensures err { IfErr result (λ error. error ≡ WordsError.Memory) }
@@ -73,7 +73,7 @@ fn asked_trace(alloc: Global, id: &str) -> Result<Asked, WordsError>
     }
 }
 
-// The search that is asked for.
+// A search is answered as the line `search ..` of a session, which alone tests options and query.
 fn asked_search(alloc: Global, given: &ArgMatches<'_>) -> Result<Asked, WordsError>
     requires { is_some (first_value (found_of given.now) (codes "query")) ≡ true }
     ensures ok { IfOk result (λ asked. (query : List ℕ) → first_value (found_of given.now) (codes "query") ≡ Some query
@@ -93,7 +93,7 @@ fn asked_search(alloc: Global, given: &ArgMatches<'_>) -> Result<Asked, WordsErr
     }
 }
 
-// Want of memory, or a refusal.
+// Out of memory, or a refusal.
 fn cause_of(error: &Error) -> WordsError
     ensures memory { kind_of error.now ≡ OutOfMemory → result ≡ WordsError.Memory }
     ensures refused { kind_of error.now ≢ OutOfMemory → result ≡ WordsError.Refused }

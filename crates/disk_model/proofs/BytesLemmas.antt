@@ -22,7 +22,7 @@ take_filled old at more = elim (cases_lt (length old) at) [
   | inr inside ↦ take-append-le at old (replicate (at + more - length old) 0) inside ∙ sym (take-append-le at old (replicate (at - length old) 0) inside)
 ]
 
--- nor behind the range
+-- nor after the range
 drop_filled : (old : List ℕ) (end : ℕ) → drop end (old ++ replicate (end - length old) 0) ≡ drop end old
 drop_filled old end = elim (cases_lt (length old) end) [
   | inl past ↦ drop_all end (old ++ replicate (end - length old) 0) (omega (arith, length-append old (replicate (end - length old) 0), length-replicate {A = ℕ} (end - length old) 0)) ∙ sym (drop_all end old (omega arith))
@@ -47,7 +47,7 @@ overwritten_inside old at [] inside =
 overwritten_inside old at (byte ∷ bytes) inside =
     ap (λ (l : List ℕ). l ++ (byte ∷ bytes) ++ drop (at + length (byte ∷ bytes)) old) (take-append-le at old (replicate (at - length old) 0) inside)
 
--- the same behind a known front
+-- the same after a known front
 pub overwritten_behind : (front rest : List ℕ) (at : ℕ) (bytes : List ℕ) → at ≡ length front → overwritten (front ++ rest) at bytes ≡ front ++ bytes ++ drop (length bytes) rest
 overwritten_behind front rest at bytes is =
     let inside : at ≤ length (front ++ rest) = omega (arith, length-append front rest) in

@@ -4,7 +4,7 @@ use Rattle.disk_model.specs.Counts.{Raised, MakesCalls}
 use Rattle.disk_model.specs.declared.disk.Device.{Ghosts}
 
 -- A run that ends with its first failed call: no call failed if it is fine, and just one if it failed. If the last byte of its
--- writes is to end at `end` and that is below 2^63, it makes no far write. Whether the disk tells its bytes stays.
+-- writes is to end at `end` and that is below 2^63, it makes no far write. Whether the disk shows its bytes stays.
 pub record Counts {D : Type 0} (g : Ghosts D) (end : ℕ) (fine failed : Type 0) (old new : D) : Type 0 where
   pub time : g.moment old ≤ g.moment new
   pub telling : g.tells new ≡ g.tells old

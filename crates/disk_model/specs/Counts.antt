@@ -44,7 +44,7 @@ IsFar Reading = ⊥
 IsFar (Writing end) = 2 ^ 63 ≤ end
 
 -- One call of a disk: it is counted, among the faults too just where it fails, among the reads just if it is one, and
--- among the far writes just if it is one. Whether the disk tells its bytes stays.
+-- among the far writes just if it is one. Whether the disk shows its bytes stays.
 pub record IsOneCall {D T E : Type 0} (tells : D → Bool) (faults calls reads far_writes : D → ℕ)
     (kind : Kind) (old new : D) (result : Result T E) : Type 0 where
   pub telling : tells new ≡ tells old

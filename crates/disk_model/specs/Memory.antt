@@ -1,4 +1,4 @@
--- The calls of a disk in memory.
+-- What contracts see of a disk in memory, and what each of its calls makes of that.
 use Rattle.std.specs.Prelude.{◌≡◌, ◌≢◌, ℕ, ◌^◌, ◌<◌, Some, None, List, [], Result, IsOk, IsErr}
 use Rattle.disk_model.specs.Images.{Image}
 use Rattle.disk_model.specs.History.{Past, added}

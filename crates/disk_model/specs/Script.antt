@@ -1,4 +1,4 @@
--- Which calls of a disk in memory are to fail.
+-- Which calls of a disk in memory are to fail: those that are listed, and all after some.
 use Rattle.std.specs.Prelude.{ℕ, ◌+◌, ◌-◌, ◌^◌, min, Bool, false, Option, Some, None, if◌then◌else◌, ◌==◌}
 use Rattle.std.specs.Option.{option_map}
 use Rattle.std.specs.List.{list_any}

@@ -1,4 +1,4 @@
-//! What calls do to the files of a disk in memory.
+//! What calls do to the files of a disk in memory, as values: changes that were made, and changes that aren't synced.
 
 ghost use Rattle.std.specs.Prelude.{◌≡◌};
 

@@ -14,8 +14,8 @@ use span_types::Failed;
 /// Calls, reads and failed calls are counted, up to the last number that the count's type holds.
 ///
 /// Code that a shared store calls is generic over this trait, and not over [`Disk`]: in a method of an `impl` that is
-/// generic in `D: Disk`, a call of a function that asks for `D: Disk` gets no proof, since the promise that it may go to
-/// another thread would have to be handed on.
+/// generic in `D: Disk`, a call of a function that asks for `D: Disk` gets no proof, since the promise that it may go
+/// to another thread would have to be handed on.
 pub trait Device: Drop {
     /// Whether the contracts speak of the bytes that it holds: of a disk either always or never.
     ghost tells: { Self → Bool };
@@ -63,9 +63,9 @@ pub trait Device: Drop {
         ensures time { Elapses (moment self.old) (moment self.new) (left_since self.old) (left_since self.new) (may_leave self.new) }
         ensures counted { IsOneCall tells faults calls reads far_writes Reading self.old self.new result };
 
-    /// Writes the bytes into a file, from the byte `at` on. Places between the old end and `at` become zeros; to write no
-    /// bytes changes nothing. No file is let grow to 2^63 bytes: such a write fails, and the disk is as before. Until a sync
-    /// of the file, a crash may leave any bytes in the range, also where the call failed.
+    /// Writes the bytes into a file, from the byte `at` on. Places between the old end and `at` become zeros; to write
+    /// no bytes changes nothing. No file is let grow to 2^63 bytes: such a write fails, and the disk is as before.
+    /// Until a sync of the file, a crash may leave any bytes in the range, also where the call failed.
     fn write(&mut self, file: u32, at: u64, bytes: &[u8]) -> Result<(), Failed>
         ensures written { IsTrue (tells self.old) → OnOk result (bytes_of (held self.new) file ≡ overwritten (bytes_of (held self.old) file) at bytes.now) }
         ensures near { OnOk result (at + length bytes.now < 2 ^ 63) }
@@ -76,8 +76,8 @@ pub trait Device: Drop {
         ensures time { Elapses (moment self.old) (moment self.new) (left_since self.old) (left_since self.new) (may_leave self.new) }
         ensures counted { IsOneCall tells faults calls reads far_writes (Writing (at + length bytes.now)) self.old self.new result };
 
-    /// Drops what a file has from the byte `len` on, which may be nothing. Until a sync of the file, a crash may leave any
-    /// length between the two and any bytes past `len`, also where the call failed.
+    /// Drops what a file has from the byte `len` on, which may be nothing. Until a sync of the file, a crash may leave
+    /// any length between the two and any bytes past `len`, also where the call failed.
     fn cut(&mut self, file: u32, len: u64) -> Result<(), Failed>
         ensures shortened { IsTrue (tells self.old) → OnOk result (bytes_of (held self.new) file ≡ take len (bytes_of (held self.old) file)) }
         ensures besides { IsTrue (tells self.old) → Besides file (held self.old) (held self.new) }
@@ -85,7 +85,7 @@ pub trait Device: Drop {
         ensures time { Elapses (moment self.old) (moment self.new) (left_since self.old) (left_since self.new) (may_leave self.new) }
         ensures counted { IsOneCall tells faults calls reads far_writes Plain self.old self.new result };
 
-    /// Makes what a file holds last: behind an `Ok` a crash can leave nothing else of it, and behind an `Err` whatever it
+    /// Makes what a file holds last: after an `Ok` a crash can leave nothing else of it, and after an `Err` whatever it
     /// could leave before.
     fn sync(&mut self, file: u32) -> Result<(), Failed>
         ensures lasting { IsTrue (tells self.old) → OnOk result (OnlyBytes file (bytes_of (held self.new) file) (may_leave self.new)) }
@@ -98,7 +98,8 @@ pub trait Device: Drop {
     fn faults(&self) -> u64
         ensures { result ≡ faults self.now };
 
-    /// A file is shorter than 2^63 bytes. This does nothing, and the device isn't asked: its contract is what it is for.
+    /// A file is shorter than 2^63 bytes. This does nothing, and the device isn't asked: its contract is what it is
+    /// for.
     fn is_short(&self, file: u32)
         ensures { IsTrue (tells self.now) → length (bytes_of (held self.now) file) < 2 ^ 63 };
 

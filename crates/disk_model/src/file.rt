@@ -1,4 +1,4 @@
-//! One file of a disk in memory.
+//! One file of a disk in memory: what it held at its last sync, what it holds, and what a crash may leave of it.
 
 ghost use Rattle.std.specs.Prelude.{◌≡◌, ◌<◌, ◌≤◌, ◌+◌, ◌^◌, ◌++◌, ◌-◌, [], ◌∷◌, length, min, max, take, drop, replicate, vec_len, vec_capacity, OnOk, OnErr, IfOk, if◌then◌else◌, slice_index};
 ghost use Rattle.disk_model.specs.Bytes.{overwritten};

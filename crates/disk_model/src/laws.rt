@@ -1,4 +1,7 @@
-//! Laws about images.
+//! A theorem about images.
+//!
+//! The function has an empty body: its contract is the statement, and the check finds the proof by itself. Nothing
+//! calls it, and no proof cites it: `docs/DISK-MODEL.md` does. `_disk` is there to name the type `D`.
 
 ghost use Rattle.std.specs.Prelude.{◌≢◌, ℕ, List};
 ghost use Rattle.disk_model.specs.Images.{Besides};

@@ -73,8 +73,9 @@ impl MemDisk {
     }
 
     /// One of the images that a crash may leave now, as a disk that holds just that, with nothing pending and no call
-    /// that is to fail. Pick 0 gives what was last synced, 1 what is held, 2 the greatest length of each file with 1 in
-    /// each byte that a crash leaves open, 3 the least length with 0 there, and each other pick a mixture that its number determines.
+    /// that is to fail. Pick 0 gives what was last synced, 1 what is held, 2 the greatest length of each file with 1
+    /// in each byte that a crash leaves open, 3 the least length with 0 there, and each other pick a mixture that its
+    /// number determines.
     pub fn image(&self, pick: u64) -> Result<MemDisk, Memory>
         ensures fresh { IfOk result (λ other. other ≡ fresh (past_of other).first) }
         ensures nothing_pending { IfOk result (λ other. (file : ℕ) → state_of (files_now (past_of other)) file ≡ settled (bytes_of (held_now (past_of other)) file)) }

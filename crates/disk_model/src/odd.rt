@@ -9,8 +9,8 @@ use span_types::{Bytes, Failed, Seq};
 /// A list of lists of bytes.
 pub type ByteLists = Seq<Bytes>;
 
-/// A disk that tells no bytes. Each file has the same length, each read gives the next of a list of chunks, and zeros when
-/// there is none left, and every call succeeds but a write whose end is 2^63 or more.
+/// A disk that shows no bytes. Each file has the same length, each read gives the next of a list of chunks, and zeros
+/// when there is none left, and every call succeeds but a write whose end is 2^63 or more.
 #[derive(Drop)]
 pub struct OddDisk {
     length: u64,
@@ -24,8 +24,8 @@ pub struct OddDisk {
 }
 
 impl OddDisk {
-    /// A disk whose files have this length, and whose reads give these chunks, each cut or filled with zeros to the length
-    /// of the buffer.
+    /// A disk whose files have this length, and whose reads give these chunks, each cut or filled with zeros to the
+    /// length of the buffer.
     pub fn new(length: u64, chunks: ByteLists) -> OddDisk {
         OddDisk {
             length,

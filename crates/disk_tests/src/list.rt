@@ -17,8 +17,8 @@ const NEW_STORE: [u8; 42] = [
     0, 0, 2, 0, 0, 0, 0, 0, 0, 0, 0, 0, 0, 0,
 ];
 
-/// A slot 1 with the segments 4 (from 2 on) and 5 (from 9 on), block 3 of level 1 with 7 rows, and the loose file 2; the
-/// next file is 6, the floor 9.
+/// A slot 1 with the segments 4 (from 2 on) and 5 (from 9 on), block 3 of level 1 with 7 rows, and the loose file 2;
+/// the next file is 6, the floor 9.
 const SECOND: [u8; 67] = [
     1, 0x54, 0x53, 0x4c, 0x31, 1, 6, 0, 0, 0, 9, 0, 0, 0, 0, 0, 0, 0, 2, 0, 0, 0, 1, 0, 0, 0, 1, 0,
     0, 0, 4, 0, 0, 0, 2, 0, 0, 0, 0, 0, 0, 0, 5, 0, 0, 0, 9, 0, 0, 0, 0, 0, 0, 0, 3, 0, 0, 0, 1, 7,
@@ -201,8 +201,8 @@ fn lists_are_read_and_each_rule_breaks_at_its_field(rt: HostRuntime) {
 /// How long a slot is that no memory would hold.
 const LONG: u64 = 1 << 50;
 
-/// A disk of long files, whose first two reads give the list of a new store: the fixed fields, the list, and zeros for the
-/// other slot.
+/// A disk of long files, whose first two reads give the list of a new store: the fixed fields, the list, and zeros for
+/// the other slot.
 fn with_long_slots(alloc: Global) -> Result<OddDisk, Memory> {
     let head = Bytes::of(NEW_STORE.to_vec(alloc)?);
     let list = Bytes::of(NEW_STORE.to_vec(alloc)?);
@@ -346,8 +346,9 @@ fn next_files(alloc: Global, disk: &MemDisk) -> [u32; 16] {
     files
 }
 
-/// How the writing of the next list is disturbed; whether it succeeds; the next file of the list that each of the first images
-/// is loaded as: what was synced, what is held, ones and zeros; and those of which each of 16 images has one.
+/// How the writing of the next list is disturbed; whether it succeeds; the next file of the list that each of the
+/// first images is loaded as: what was synced, what is held, ones and zeros; and those of which each of 16 images has
+/// one.
 type Writing = (Trouble, bool, &'static [u32], &'static [u32]);
 
 static WRITINGS: [Writing; 15] = [

@@ -310,8 +310,8 @@ fn adds_record(
     }
 }
 
-/// Writes the first record, and then the second one to a disk that stops after so many calls: whether that succeeds. None if
-/// the first one isn't written.
+/// Writes the first record, and then the second one to a disk that stops after so many calls: whether that succeeds.
+/// None if the first one isn't written.
 fn adds_both(alloc: Global, disk: &mut MemDisk, calls: u64) -> Option<bool> {
     create(disk, 2).ok()?;
     let mut segment = Segment::fresh(2, 0);
@@ -381,7 +381,8 @@ fn other_bit(place: u8) -> Result<usize, u64> {
         // Not the next number.
         10..=16 => Err(10),
         148..=154 => Err(148),
-        // The form 1: what follows the first span is an event, in whose attributes a key stands again; no span is extended.
+        // The form 1: what follows the first span is an event, in whose attributes a key stands again; no span is
+        // extended.
         17 => Err(115),
         155 => Err(148),
         // No run, though there are bytes; a run more, though there are none.
@@ -399,16 +400,16 @@ fn other_bit(place: u8) -> Result<usize, u64> {
 /// The same within the two spans, their resource and their scopes.
 fn other_bit_of_spans(place: u8) -> Result<usize, u64> {
     match place {
-        // No attribute: the key's length is the count of scopes, its letter the length of a name of 115 bytes, and at the
-        // end there is no count of spans.
+        // No attribute: the key's length is the count of scopes, its letter the length of a name of 115 bytes, and at
+        // the end there is no count of spans.
         19 => Err(139),
         // A key without letters: its letter is a kind of value.
         20 => Err(21),
         // A whole number: the letters are a count of scopes and the length of a name of 107 bytes, after which stand no
         // version, no attributes and no spans.
         22 => Err(135),
-        // A text of three bytes: the scope's letter is the length of a name of 97 bytes, after which there are six spans,
-        // but no room for a trace.
+        // A text of three bytes: the scope's letter is the length of a name of 97 bytes, after which there are six
+        // spans, but no room for a trace.
         23 => Err(129),
         // A scope's name without letters: its letter is the length of a version, which is too long for the second scope
         // and of 97 bytes for the first.
@@ -419,15 +420,16 @@ fn other_bit_of_spans(place: u8) -> Result<usize, u64> {
         30 => Err(33),
         81 => Err(94),
         82 => Err(85),
-        // A parent, for whom the bytes from the name on are taken: the second trace has a list of attributes, and in the
-        // second id stands a truth that is 2.
+        // A parent, for whom the bytes from the name on are taken: the second trace has a list of attributes, and in
+        // the second id stands a truth that is 2.
         56 => Err(106),
         // A name without letters: its letter is the kind.
         57 => Err(58),
         117 => Err(118),
         // A message of one byte: the second scope's letter is the length of a key, which is too long.
         77 => Err(80),
-        // An attribute, in the second scope's place: the next scope stands in the trace, and in the id a truth that is 2.
+        // An attribute, in the second scope's place: the next scope stands in the trace, and in the id a truth that is
+        // 2.
         78 => Err(107),
         // No parent: its bytes are the name, the kind and the start, and the end's first byte is the status.
         108 => Err(128),

@@ -23,7 +23,7 @@ pub(crate) struct Row {
     pub(crate) moment: u64,
 }
 
-/// What the header of a block tells of its rows.
+/// What the header of a block says of its rows.
 #[derive(Clone, Copy)]
 pub(crate) struct Header {
     pub(crate) file: u32,
@@ -273,7 +273,7 @@ impl Model {
         Ok(Step::More)
     }
 
-    // The new segment begins behind all pushes. The segments go whose rows are all in blocks.
+    // The new segment begins after all pushes. The segments go whose rows are all in blocks.
     fn commit_flush(&mut self, job: Flush) -> Result<Step, Memory> {
         let floor = least(
             least(self.count, self.head.as_slice()),

@@ -1,5 +1,5 @@
-//! Lists of events on a store over a disk in memory: one whose every reply was worked out by hand, and long random ones
-//! against what the events mean.
+//! Lists of events on a store over a disk in memory: one whose every reply was worked out by hand, and long random
+//! ones against what the events mean.
 
 ghost use Rattle.std.specs.Prelude.{◌≤◌};
 
@@ -41,7 +41,7 @@ pub(crate) fn batch_of(alloc: Global, line: &str) -> Result<Batch, Memory> {
     }
 }
 
-// What the events are answered in the store that a disk holds, none where it isn't opened or memory is wanted, and the
+// What the events are answered in the store that a disk holds, none where it isn't opened or memory runs out, and the
 // disk.
 pub(crate) fn ran<D: Device>(alloc: Global, disk: D, events: &Events) -> (Option<Replies>, D) {
     match Core::open_store(alloc, disk, 7) {
@@ -73,7 +73,7 @@ enum Wanted {
     Reclaimed(u64),
 }
 
-// A page of a block that is known: its bytes, but for zeros behind them.
+// A page of a block that is known: its bytes, but for zeros after them.
 #[derive(Drop)]
 struct Known {
     block: u32,
@@ -81,7 +81,7 @@ struct Known {
     bytes: Vec<u8>,
 }
 
-// Whether a page has these bytes, and zeros behind them.
+// Whether a page has these bytes, and zeros after them.
 fn begins_with(page: &[u8], bytes: &[u8]) -> bool {
     page.len() == 4096
         && page.starts_with(bytes)
@@ -195,7 +195,8 @@ impl Play {
     }
 }
 
-// Plays the events on an empty disk, and asserts that each reply is as it was to be. No reply is missing, and none is too much.
+// Plays the events on an empty disk, and asserts that each reply is as it was to be. No reply is missing, and none is
+// too much.
 fn check_play(
     rt: &(impl Abort + AllocGlobal),
     play: Play,
@@ -346,7 +347,7 @@ fn add_page(play: &mut Play, look: u64, block: u32, wanted: Wanted) -> Result<()
     )
 }
 
-// The events behind the compaction.
+// The events after the compaction.
 fn add_ends(play: &mut Play) -> Result<(), Memory> {
     play.add(Event::Reclaim, Wanted::Reclaimed(2))?;
     add_pages(play, 3)?;

@@ -29,7 +29,8 @@ impl Source for Drip {
     }
 }
 
-// What a reader answers, call by call, until the end: a line's bytes and a bar, or a sign of its own for each other answer.
+// What a reader answers, call by call, until the end: a line's bytes and a bar, or a sign of its own for each other
+// answer.
 fn answers(alloc: Global, bytes: &[u8], step: usize, failing: &[u64]) -> Result<Vec<u8>, Memory>
     requires { 0 < step }
 {

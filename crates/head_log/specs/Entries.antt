@@ -1,4 +1,4 @@
--- Batches with their numbers.
+-- Batches with the numbers of their records: what a segment's bytes are read as.
 use Rattle.std.specs.Prelude.{ℕ, ◌+◌, List, [], ◌∷◌}
 use Rattle.span_types.specs.declared.spans.Span.{Span}
 use Rattle.head_log.specs.declared.numbered.NumberedBatch.{NumberedBatch}

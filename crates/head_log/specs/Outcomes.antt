@@ -14,14 +14,14 @@ pub record IsAt (segment : Segment) (file first count : ℕ) : Type 0 where
   pub first_is : segment.first ≡ first
   pub count_is : segment.count ≡ count
 
--- The answer is what reading the bytes gives, unless the disk failed or memory was wanted.
+-- The answer is what reading the bytes gives, unless the disk failed or memory ran out.
 abbrev pub Scans : ℕ → ℕ → List ℕ → Result (Segment × List NumberedBatch) LogError → Type 0
 Scans file first bytes (Ok x) = (segment_at first bytes ≡ Ok (x.1, record { whole = bytes; at = x.0.gate })) × IsAt x.0 file first (length x.1)
 Scans file first bytes (Err (errors.NotLog f at)) = (f ≡ file) × (segment_at first bytes ≡ Err at)
 Scans file first bytes (Err errors.Fault) = Unit {0}
 Scans file first bytes (Err errors.Memory) = Unit {0}
 
--- The answer is these batches and the gate after them, unless the disk failed or memory was wanted.
+-- The answer is these batches and the gate after them, unless the disk failed or memory ran out.
 abbrev pub Recalls : ℕ → List (List Span) → ℕ → Result (Segment × List NumberedBatch) LogError → Type 0
 Recalls first batches gate (Ok x) = (x.1 ≡ entries first batches) × (x.0.gate ≡ gate)
 Recalls first batches gate (Err (errors.NotLog f at)) = ⊥

@@ -1,4 +1,5 @@
-//! The body of a record: its number, its form and its spans, in runs of equal resources and of equal scopes.
+//! The body of a record, bytes to spans: its number, its form, and the spans in runs of equal resources and of equal
+//! scopes. What a run of a resource or of a scope holds stands here in both directions.
 
 ghost use Rattle.std.specs.Prelude.{◌≡◌, ◌<◌, OnOk, OnSome};
 ghost use Rattle.span_fields.specs.Breaks.{Gives};

@@ -1,4 +1,4 @@
-//! What the spans of a body are grouped by, and runs of it.
+//! What the spans of a body are grouped by, and runs of it, written and read.
 
 ghost use Rattle.std.specs.Prelude.{◌≡◌, ◌<◌, ◌++◌, ℕ, All, Bool, List, Result, [], false, OnOk, length};
 ghost use Rattle.std.specs.List.{flat_map};

@@ -1,4 +1,7 @@
-//! Laws about the grammar.
+//! Theorems about the grammar of segments: which bytes stand for which batches.
+//!
+//! Each function has an empty body: its contract is the statement, and its proof stands in `proofs/laws/`. Nothing
+//! calls them; proofs of `store_core` and `stored_history` cite the lemmas.
 
 ghost use Rattle.std.specs.Prelude.{◌≡◌, ◌+◌, ◌++◌, ℕ, List, Ok, length};
 ghost use Rattle.span_types.specs.declared.spans.Span.{Span};
@@ -26,8 +29,8 @@ pub fn read_is_encoded()
         → (batches : List (List Span)) × (found ≡ entries first batches) × SegmentHolds first batches end.at bytes }
 {}
 
-/// The entries of a list of batches are as many as these, and the entries of two lists one after the other are those of the
-/// first and then those of the second.
+/// The entries of a list of batches are as many as these, and the entries of two lists one after the other are those
+/// of the first and then those of the second.
 pub fn entries_of_lists()
     ensures length { (first : ℕ) (batches : List (List Span)) → length (entries first batches) ≡ length batches }
     ensures append { (first : ℕ) (batches more : List (List Span)) → entries first (batches ++ more) ≡ entries first batches ++ entries (first + length batches) more }

@@ -1,4 +1,4 @@
-//! Batches with their numbers.
+//! Batches with the numbers of their records: what reading a segment gives.
 
 use span_types::{Batch, Seq};
 

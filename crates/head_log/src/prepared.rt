@@ -1,4 +1,5 @@
-//! A record that is ready to be written.
+//! A record before it is written, spans to bytes. All the memory that it needs is taken here, so that `append` takes
+//! none.
 
 ghost use Rattle.std.specs.Prelude.{◌≡◌, ◌<◌, ◌≤◌, ◌^◌, ◌++◌, drop, length, vec_len, IfOk};
 ghost use Rattle.byte_fields.specs.Spelling.{fixed64_bytes};
@@ -12,7 +13,7 @@ use span_types::{Batch, Memory};
 use std::alloc::Global;
 use std::marker::Model;
 
-/// The bytes behind a record's gate, in one piece: the length of the body, the body, and the next gate, which is closed.
+/// The bytes after a record's gate, in one piece: the length of the body, the body, and the next gate, which is closed.
 /// Contracts see the number and the body.
 #[derive(Debug, Drop)]
 pub struct Prepared {
@@ -57,7 +58,7 @@ impl Prepared {
         self.number
     }
 
-    /// What is written behind the gate.
+    /// What is written after the gate.
     pub(crate) fn text(&self) -> &[u8]
         ensures text { result.now ≡ framed self.now.body }
         ensures short { length self.now.body < 2 ^ 64 }
@@ -66,10 +67,11 @@ impl Prepared {
     }
 }
 
-/// A closed gate.
+/// A closed gate: the next record's, which doesn't count until it is written.
 const CLOSED: u8 = 0;
 
-/// Writes the length of a body over the first eight bytes.
+/// Writes the length of a body over the first eight bytes. It is known only once the body stands after them, so zeros
+/// stood in its place.
 fn set_length(text: &mut Vec<u8>, length: u64)
     requires { 8 ≤ vec_len text.old }
     ensures { text.new.items ≡ fixed64_bytes length ++ drop 8 text.old.items }

@@ -1,4 +1,4 @@
-//! Reading a segment back.
+//! Reading a segment back, as a store is opened: a file off a disk, and its bytes to batches by `records`.
 
 ghost use Rattle.std.specs.Prelude.{◌≡◌, ◌<◌, ◌≤◌, ◌+◌, ◌-◌, ◌++◌, ℕ, All, List, min, take, drop, IsTrue, IfOk, OnErr, IsErrOf, length};
 ghost use Rattle.disk_model.specs.Images.{bytes_of, SameBytes};
@@ -68,10 +68,10 @@ const BLOCK: usize = 16_384;
 
 /// The batches of a segment whose first record has the number `first`, and the segment as it is to be written on.
 ///
-/// Where the bytes stand for batches, as `append` leaves them, exactly these are answered, and what is answered is what the
-/// bytes stand for. A file that the grammar does not allow is `NotLog` at the first place where it breaks. The file is read in
-/// blocks, in time that is linear in its bytes. No number that it holds says how much memory is taken before as many bytes
-/// are there.
+/// Where the bytes stand for batches, as `append` leaves them, exactly these are answered, and what is answered is
+/// what the bytes stand for. A file that the grammar does not allow is `NotLog` at the first place where it breaks.
+/// The file is read in blocks, in time that is linear in its bytes. No number that it holds says how much memory is
+/// taken before as many bytes are there.
 pub fn scan<D: Device>(
     alloc: Global,
     disk: &mut D,
@@ -82,7 +82,7 @@ pub fn scan<D: Device>(
     ensures kept { IsTrue (D.tells disk.old) → (batches : List (List Span)) (gate : ℕ) → SegmentHolds first batches gate (bytes_of (D.held disk.old) file) → Recalls first batches gate result }
     ensures stands { IsTrue (D.tells disk.old) → IfOk result (λ x. (batches : List (List Span)) × (x.1 ≡ entries first batches) × SegmentHolds first batches x.0.gate (bytes_of (D.held disk.old) file)) }
 
-    // The answer has this form over a disk that doesn't tell its bytes too.
+    // The answer has this form over a disk that doesn't show its bytes too.
     ensures named { IfOk result (λ x. IsAt x.0 file first (length x.1)) }
     ensures numbered { IfOk result (λ x. (batches : List (List Span)) × (x.1 ≡ entries first batches)) }
     ensures below { IfOk result (λ x. All (λ entry. entry.number < 4294967295) x.1) }

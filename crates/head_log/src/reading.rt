@@ -1,4 +1,4 @@
-//! The spans of a body, read field by field.
+//! Reading the spans of a body, bytes to spans, field by field.
 
 ghost use Rattle.std.specs.Prelude.{◌≡◌};
 ghost use Rattle.span_fields.specs.Breaks.{Gives};

@@ -1,4 +1,4 @@
-//! The records of a segment.
+//! Reading the records of a segment, bytes to batches: its version, and the gate and the length of each record.
 
 ghost use Rattle.std.specs.Prelude.{◌≡◌, ◌≤◌, ◌<◌, [], Ok, IfOk, OnOk, length};
 ghost use Rattle.byte_fields.specs.Reading.{AreBytes};
@@ -18,7 +18,8 @@ const OPEN: u8 = 1;
 /// The version of the format, which is a segment's first byte.
 const VERSION: u8 = 1;
 
-/// The batches of a segment with these bytes, whose first record has the number `first`, and the place of its last gate.
+/// The batches of a segment with these bytes, whose first record has the number `first`, and the place of its last
+/// gate.
 #[tactic(auto, unfolding(crate::specs::Scanning::segment_at))]
 pub fn read_segment(
     alloc: Global,

@@ -1,4 +1,5 @@
-//! A segment that is written, and how a record is added to it.
+//! A segment that is written: making an empty one, and adding a record to it. A push's batch is durable once `append`
+//! says `Ok`.
 
 ghost use Rattle.std.specs.Prelude.{◌≡◌, ℕ, ◌+◌, ◌<◌, ◌≤◌, ◌^◌, List, [], ◌∷◌, ◌++◌, length, IsTrue, OnOk, OnErr};
 ghost use Rattle.disk_model.specs.Images.{bytes_of, Besides};
@@ -63,23 +64,23 @@ pub fn create<D: Device>(disk: &mut D, file: u32) -> Result<(), Failed>
     write_through(disk, file, 0, &EMPTY)
 }
 
-/// Adds a record to a segment: its text is made to last, and then its gate, so that a crash can't open a gate before a body
-/// that didn't get through. Its memory was taken when the record was prepared.
+/// Adds a record to a segment: its text is made to last, and then its gate, so that a crash can't open a gate before a
+/// body that didn't get through. Its memory was taken when the record was prepared.
 ///
-/// A refused call leaves `seg` as it was; the file may then hold the record or not, so no further record is to be added to
-/// it before it is scanned again.
+/// A refused call leaves `seg` as it was; the file may then hold the record or not, so no further record is to be
+/// added to it before it is scanned again.
 pub fn append<D: Device>(disk: &mut D, seg: &mut Segment, entry: &Prepared) -> Result<(), Failed>
     requires number { entry.now.number ≡ seg.old.first + seg.old.count }
     requires limit { entry.now.number < 4294967295 }
 
-    // The file stands for these batches whatever a crash leaves of it, with its closed gate where the segment says. Then it
-    // stands for them, with or without the new one, whenever a crash comes in the call.
+    // The file stands for these batches whatever a crash leaves of it, with its closed gate where the segment says.
+    // Then it stands for them, with or without the new one, whenever a crash comes in the call.
     ensures any_moment { (batches : List (List Span)) (spans : List Span) (known : List ℕ) → IsTrue (D.tells disk.old)
         → OnlyBytes seg.old.file known (D.may_leave disk.old) → SegmentHolds seg.old.first batches seg.old.gate known
         → length batches ≡ seg.old.count → IsBatchBody entry.now.number spans entry.now.body
         → RunInFile D.moment D.left_since D.may_leave seg.old.file (SegmentKeepsEither seg.old.first batches spans) (SegmentKeepsEither seg.old.first batches spans) disk.old disk.new }
 
-    // Behind an `Ok` nothing but the batches and the new one can be left, and the segment counts it.
+    // After an `Ok` nothing but the batches and the new one can be left, and the segment counts it.
     ensures acknowledged { (batches : List (List Span)) (spans : List Span) (known : List ℕ) → IsTrue (D.tells disk.old)
         → OnlyBytes seg.old.file known (D.may_leave disk.old) → SegmentHolds seg.old.first batches seg.old.gate known
         → length batches ≡ seg.old.count → IsBatchBody entry.now.number spans entry.now.body
@@ -102,8 +103,9 @@ pub fn append<D: Device>(disk: &mut D, seg: &mut Segment, entry: &Prepared) -> R
     Ok(())
 }
 
-/// Adds a record to the bytes of a segment: first what stands behind the gate, the next gate among it, and once that lasts
-/// the gate. Until then the gate on the disk is closed, so that it doesn't matter what a crash leaves of the body.
+/// Adds a record to the bytes of a segment: first what stands after the gate, the next gate among it, and once that
+/// lasts the gate. Until then the gate on the disk is closed, so that it doesn't matter what a crash leaves of the
+/// body.
 fn append_record<D: Device>(disk: &mut D, file: u32, gate: u64, text: &[u8]) -> Result<(), Failed>
     requires { gate < 2 ^ 63 }
 
@@ -112,7 +114,7 @@ fn append_record<D: Device>(disk: &mut D, file: u32, gate: u64, text: &[u8]) -> 
         → OnlyBytes file known (D.may_leave disk.old) → HasBodies bodies gate known
         → RunInFile D.moment D.left_since D.may_leave file (SegmentIsEither bodies body) (SegmentIsEither bodies body) disk.old disk.new }
 
-    // Behind an `Ok` the new one can't be lost.
+    // After an `Ok` the new one can't be lost.
     ensures acknowledged { (bodies : List (List ℕ)) (body known : List ℕ) → IsTrue (D.tells disk.old) → text.now ≡ framed body → length body < 2 ^ 64
         → OnlyBytes file known (D.may_leave disk.old) → HasBodies bodies gate known
         → OnOk result (HasBodies (bodies ++ body ∷ []) (gate + length text.now) (bytes_of (D.held disk.new) file)

@@ -1,4 +1,4 @@
-//! A batch as the body of a record.
+//! Writing a batch as the body of a record, spans to bytes.
 
 ghost use Rattle.std.specs.Prelude.{◌≡◌, ◌++◌, OnOk};
 ghost use Rattle.std.specs.List.{flat_map};

@@ -1,4 +1,8 @@
-//! The headline, and what goes with it.
+//! The headline, and theorems that go with it: what a run's replies and its disk tell, by histories alone.
+//!
+//! Each contract is the statement, and its proof stands in `proofs/laws/`. No program runs these functions, and no
+//! crate is above this one: they are there to be read. Their bodies are empty, but for one that calls a theorem of
+//! `session_meaning` to have its contract. The parameters name disks and cores, before and after.
 
 ghost use Rattle.std.specs.Prelude.{Bool, IsTrue, true, ◌≡◌, ◌⊎◌, ◌<◌, ◌≤◌, ◌+◌, ◌++◌, List, [], ◌∷◌, Some, Ok, length, ℕ};
 ghost use Rattle.std.specs.List.{Contains};
@@ -31,9 +35,10 @@ use disk_model::Device;
 use session_meaning::pushes_have_their_causes;
 use store_core::Core;
 
-/// The headline. Every answer of a run is TraceQL's meaning over the first occurrences of the spans in one front of the history
-/// of pushes. That front has each push that was acknowledged before. Whatever a crash leaves of the disk afterwards stands for
-/// that history to its end. `trace_shell::run` ensures the premises; `true` says that the disk tells its bytes.
+/// The headline. Every answer of a run is TraceQL's meaning over the first occurrences of the spans in one front of
+/// the history of pushes. That front has each push that was acknowledged before. Whatever a crash leaves of the disk
+/// afterwards stands for that history to its end. `trace_shell::run` ensures the premises; `true` says that the disk
+/// shows its bytes.
 pub fn the_headline<D: Device>(disk: &D, later: &D)
     ensures answers { (words : List (List ℕ)) (o : Outcome) (old new : Edges) → IsRunOf true words o old new
         → TellTheHistory (history_of o.first) o.items o.replies (history_of o.last) }
@@ -42,8 +47,8 @@ pub fn the_headline<D: Device>(disk: &D, later: &D)
         → Recovers D.Device.own disk.now later.now o → IsTrue o.opened
         → (first last : History) × ImageStandsFor (D.held disk.now) first
         × KeepsTheHistory D.Device.own disk.now later.now o.items o.replies first last }
-    // Where all that a crash could leave at first stood for the first history, all that one left at any moment stands for it
-    // with the first few accepted pushes, or as it may stand after the last line.
+    // Where all that a crash could leave at first stood for the first history, all that one left at any moment stands
+    // for it with the first few accepted pushes, or as it may stand after the last line.
     ensures at_any_moment { (items : List Item) (replies : List Reply) (first last : History)
         → KeepsTheHistory D.Device.own disk.now later.now items replies first last
         → ((image : Image) → D.may_leave disk.now image → ImageStandsFor image first)
@@ -51,8 +56,8 @@ pub fn the_headline<D: Device>(disk: &D, later: &D)
         → StoodFor (count_of first) last (unsure_entry items replies) image }
 {}
 
-/// Whatever history the disk's bytes stood for, the run goes on from it: it matters to no reply and to no later image which of
-/// them is meant.
+/// Whatever history the disk's bytes stood for, the run goes on from it: it matters to no reply and to no later image
+/// which of them is meant.
 pub fn each_stored_history_goes_on<D: Device>(disk: &D, later: &D)
     ensures { (words : List (List ℕ)) (o : Outcome) (old new : Edges) → IsRunOf true words o old new
         → Recovers D.Device.own disk.now later.now o → IsTrue o.opened
@@ -72,8 +77,8 @@ pub fn the_next_run_goes_on<D: Device>(begun: &D, left: &D, disk: &D, later: &D)
         → (start : History) × ((start ≡ last) ⊎ (start ≡ with_entry (unsure_entry items replies) last))
         × KeepsTheHistory D.Device.own disk.now later.now o.items o.replies
         start (grown start (accepted_entries o.items o.replies)) }
-    // After a crash at any moment of it: with a front of that history which has all that was stored before it. It is supposed
-    // that all that a crash could leave as it began stood for the same history.
+    // After a crash at any moment of it: with a front of that history which has all that was stored before it. It is
+    // supposed that all that a crash could leave as it began stood for the same history.
     ensures after_a_crash { (items : List Item) (replies : List Reply) (first last : History)
         → KeepsTheHistory D.Device.own begun.now left.now items replies first last
         → (words : List (List ℕ)) (o : Outcome) (old new : Edges) → IsRunOf true words o old new
@@ -93,7 +98,8 @@ pub fn replies_are_written()
         → AppendsPrefix old.taken new.taken (reply_texts o.replies) }
 {}
 
-/// Where replies tell a history, each tells one front of the last one: with each push that was accepted before, and no other.
+/// Where replies tell a history, each tells one front of the last one: with each push that was accepted before, and no
+/// other.
 pub fn each_answer_is_of_a_front()
     ensures { (first last : History) (before after : List Item) (item : Item) (earlier later : List Reply)
         → (reply : Reply)
@@ -144,8 +150,8 @@ pub fn a_request_keeps_what_is_stored<D: Device>(old: &Core<D>, new: &Core<D>)
     ensures of_a_request { (h : History) (asked : Request) (reply : Reply) → HasHistory D.Device.own old.now h
         → IsTrue (D.tells old.now.disk) → HasReplied (port_of D.Device.own) old.now asked reply new.now
         → KeepsFrom D.Device.own old.now new.now h (grown h (accepted_entry (Ok asked) reply)) }
-    // The same of lines, one after another. So whatever a crash left since some line was answered has all that was accepted by
-    // then.
+    // The same of lines, one after another. So whatever a crash left since some line was answered has all that was
+    // accepted by then.
     ensures of_lines { (h : History) (items : List Item) (replies : List Reply) → HasHistory D.Device.own old.now h
         → IsTrue (D.tells old.now.disk) → AreAnsweredOver (port_of D.Device.own) old.now items replies new.now
         → KeepsFrom D.Device.own old.now new.now h (grown h (accepted_entries items replies)) }

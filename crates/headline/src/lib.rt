@@ -1,6 +1,6 @@
 //! The headline: a run's replies and its disk tell one history (`specs/Headline.antt`), and laws that go with it.
 //!
-//! The crate has definitions and laws. Nothing here runs.
+//! The crate has definitions and laws. Nothing here runs: each function is a law, and its contract is the law.
 #![tactic(auto)]
 
 mod laws;

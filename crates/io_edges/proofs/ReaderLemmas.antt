@@ -200,7 +200,7 @@ pub IsToRead-start : (reader : Reader) (left : Option (List ℕ)) → ((text : L
 IsToRead-start reader left fresh text told =
     let P : Option (List ℕ) → Type 0 = λ l. IsToRead reader l text in subst P (sym told) (fresh text)
 
--- Where a source tells its bytes, what a reader took of them is what is gone.
+-- Where a source shows its bytes, what a reader took of them is what is gone.
 pub TakesBytes-told : (before after : Option (List ℕ)) (xs : List ℕ) (first second : ℕ) → before ≡ Some xs → TakesBytes before after first second
     → (ys : List ℕ) × (after ≡ Some ys) × (first + length xs ≡ second + length ys)
 TakesBytes-told before after xs first second told took =

@@ -1,7 +1,7 @@
--- What contracts see of the devices in memory.
+-- What contracts see of source, sink and clock in memory, and how their counts rise.
 use Rattle.std.specs.Prelude.{ℕ, ◌+◌, ◌-◌, ◌^◌, List, min}
 
--- One more than a count, which stands still at its type's end.
+-- One more than a count, which saturates at its type's end.
 abbrev pub one_more : ℕ → ℕ
 one_more count = min (count + 1) (2 ^ 64 - 1)
 

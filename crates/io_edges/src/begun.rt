@@ -1,4 +1,4 @@
-//! A line that isn't ended yet.
+//! A line that isn't ended yet: its bytes so far, or once it is too long only how many they are.
 
 ghost use Rattle.std.specs.Prelude.{◌≡◌, ℕ, ◌+◌, ◌^◌, ◌<◌, ◌≤◌, List, [], ◌++◌, length, IsTrue, ◌↔◌, OnOk, OnErr};
 ghost use Rattle.io_edges.specs.Lines.{without_return, line_limit};
@@ -28,7 +28,7 @@ impl Begun {
         Begun::Kept(Text8::none(alloc))
     }
 
-    // Adds the next bytes of the line. Where memory is wanted what was begun stands.
+    // Adds the next bytes of the line. Out of memory what was begun stands.
     pub(crate) fn add(&mut self, bytes: &[u8]) -> Result<(), Memory>
         requires sound { IsSound self.old }
         requires fits { begun_len self.old + length bytes.now < 2 ^ 63 }

@@ -1,4 +1,4 @@
-//! The buffer between a source and the lines.
+//! The buffer between a source and the lines: bytes that were taken at once and not looked at yet.
 
 ghost use Rattle.std.specs.Prelude.{◌≡◌, ◌+◌, ◌<◌, ◌≤◌, [], length, vec_len, take, drop, is_some, IfOk, OnOk, OnErr, IsErrOf};
 ghost use Rattle.std.specs.Io.KnownBytes.{Consumes, IsAtEnd, Keeps};

@@ -10,14 +10,14 @@ use span_types::Failed;
 
 /// Gives bytes in order, as standard input does.
 pub trait Source {
-    // The bytes that remain, where the source tells them.
+    // The bytes that remain, where the source shows them.
     ghost left: { Self → Option (List ℕ) };
 
     // How many calls failed so far.
     ghost faults: { Self → ℕ };
 
-    /// Fills the front of `buf` with the bytes that come next, and says how many they are. A buffer with room that is given
-    /// none tells that the input has ended. A call that fails takes nothing.
+    /// Fills the front of `buf` with the bytes that come next, and says how many they are. A buffer with room that is
+    /// given none tells that the input has ended. A call that fails takes nothing.
     fn take(&mut self, buf: &mut [u8]) -> Result<usize, Failed>
         ensures within { IfOk result (λ count. count ≤ length buf.new) }
         ensures bytes { ReadConsumes (left self.old) (left self.new) result buf.new }
@@ -28,7 +28,7 @@ pub trait Source {
 
 /// Takes bytes in order, as standard output does.
 pub trait Sink {
-    // The bytes taken, where the sink tells them.
+    // The bytes taken, where the sink shows them.
     ghost taken: { Self → Option (List ℕ) };
 
     // How many calls failed so far.
@@ -45,11 +45,11 @@ pub trait Sink {
 
 /// Gives moments.
 pub trait Clock {
-    // The moments that are to be given, where the clock tells them.
+    // The moments that are to be given, where the clock shows them.
     ghost moments: { Self → Option (List ℕ) };
 
-    /// The moment, in nanoseconds. A clock that tells its moments gives the first of them, which then goes where another
-    /// follows it, and 0 where there is none.
+    /// The moment, in nanoseconds. A clock that shows its moments gives the first of them, which then goes where
+    /// another follows it, and 0 where there is none.
     fn now(&mut self) -> u64
         ensures moment { ForSome (moments self.old) (λ told. result ≡ first_moment told) }
         ensures later { moments self.new ≡ option_map later_moments (moments self.old) };

@@ -1,4 +1,4 @@
-//! A clock in memory, for tests and for proofs: it tells its moments.
+//! A clock in memory, for tests and for proofs: it shows its moments.
 
 ghost use Rattle.std.specs.Prelude.{◌≡◌, Some};
 ghost use Rattle.std.specs.Option.{option_map, ForSome};

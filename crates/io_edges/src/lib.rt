@@ -1,8 +1,14 @@
-//! The outside as a program sees it: a source of bytes, a sink for bytes, a clock and a gate, their stand-ins in memory,
-//! and the reader that makes lines of a source's bytes.
+//! The outside as a program sees it: a source of bytes, a sink for bytes, a clock and a gate, their stand-ins in
+//! memory, and the reader that makes lines of a source's bytes.
 //!
 //! A device counts its faults. A failure that it answers is one that it has counted, so a layer above that hands a
 //! failure on can show the device's count for it.
+//!
+//! - The traits: `devices`. Their stand-ins in memory: `mem_source`, `mem_sink`, `fixed_clock`.
+//! - Bytes to lines: `line_reader`, over `block` (bytes that weren't looked at yet) and `begun` (a line that isn't
+//!   ended); `line` is what it answers.
+//!
+//! The entry point is `LineReader::next`, whose promise is in `specs/Reader.antt`.
 #![tactic(auto)]
 
 mod begun;

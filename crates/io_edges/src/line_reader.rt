@@ -1,4 +1,4 @@
-//! Makes lines of a source's bytes.
+//! Makes lines of a source's bytes. A session and an ingest read their input by it.
 
 ghost use Rattle.std.specs.Prelude.{◌≡◌, ◌≢◌, ◌+◌, ◌<◌, ◌≤◌, ℕ, List, [], ◌++◌, length, slice_index, is_some, EachIndex, IfSome, IfNone, IfOk, OnErr, IsErrOf, Some};
 ghost use Rattle.span_types.specs.Faults.{Rose};
@@ -71,10 +71,10 @@ impl LineReader {
     /// # Errors
     ///
     /// `LineError::Fault` where the source failed; every line that was ended by then was answered. `LineError::Memory`
-    /// where memory was wanted. After either the text that is still to be read stands, so a later call goes on where this
+    /// where memory ran out. After either the text that is still to be read stands, so a later call goes on where this
     /// one was.
     pub fn next<S: Source>(&mut self, source: &mut S) -> Result<Line, LineError>
-        // Where the source tells its bytes, the answer is about the text that is still to be read as lines.
+        // Where the source shows its bytes, the answer is about the text that is still to be read as lines.
         ensures line { IfOk result (λ line. (text : List ℕ) → IsToRead self.old (S.left source.old) text
             → Answers line text (IsToRead self.new (S.left source.new))) }
         ensures stands { OnErr result ((text : List ℕ) → IsToRead self.old (S.left source.old) text
@@ -110,7 +110,7 @@ impl LineReader {
     }
 
     // Looks for the end of a line in the pending bytes, and where there is none adds them to the line that is begun.
-    // Where memory is wanted the reader stands.
+    // Out of memory the reader stands.
     fn scan(&mut self) -> Result<Option<Line>, Memory>
         ensures line { IfOk result (λ found. IfSome found
             (λ line. (held : List ℕ) → Holds self.old held → EndsByFeed held line self.new)) }

@@ -1,4 +1,4 @@
-//! A sink in memory, for tests and for proofs: it tells its bytes, and fails at the calls that it was told to.
+//! A sink in memory, for tests and for proofs: it shows its bytes, and fails at the calls that it was told to.
 
 ghost use Rattle.std.specs.Prelude.{◌≡◌, ◌≤◌, [], is_some, is_ok, if◌then◌else◌, IsErr, OnOk, OnErr, Contains, Some};
 ghost use Rattle.std.specs.Io.KnownBytes.{Appends};
@@ -11,8 +11,8 @@ use span_types::{Calls, Failed};
 use std::alloc::Global;
 use std::marker::Model;
 
-/// A sink that keeps its bytes in memory. Each listed call fails, counted from 1; any other fails only for want of memory
-/// for its own growth, which it counts apart. A failing call takes nothing.
+/// A sink that keeps its bytes in memory. Each listed call fails, counted from 1; any other fails only if memory runs
+/// out for its own growth, which it counts apart. A failing call takes nothing.
 #[derive(Debug, Drop)]
 pub struct MemSink {
     taken: Vec<u8>,

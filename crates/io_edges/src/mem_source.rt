@@ -1,4 +1,4 @@
-//! A source in memory, for tests and for proofs: it tells its bytes, and fails at the calls that it was told to.
+//! A source in memory, for tests and for proofs: it shows its bytes, and fails at the calls that it was told to.
 
 ghost use Rattle.std.specs.Prelude.{◌≡◌, ◌≤◌, ◌↔◌, length, take, min, is_some, is_ok, if◌then◌else◌, IfOk, IsErr, OnErr, Contains, Some};
 ghost use Rattle.std.specs.Io.KnownBytes.{ReadConsumes};

@@ -87,7 +87,7 @@ module _ (Leaves : Call → Type 0) (Mine : Kind) (own : (held : List Hold) (n f
   leaves_of Before c calls along = along.1
   leaves_of (Has number file) c calls along = along.1
 
-  -- the phase once a call was made behind which the round goes on
+  -- the phase once a call was made after which the round goes on
   next_of : Phase → Call → Phase
   next_of Before c = Has (job_number c.reply) (job_file c.reply)
   next_of (Has number file) c = Has number file

@@ -1,4 +1,5 @@
-//! A look that is taken among calls of a port tells the history at the look, whatever calls come before its blocks are read.
+//! A look that is taken among calls of a port tells the history at the look, whatever calls come before its blocks are
+//! read.
 //!
 //! Nothing here runs: each function is a law, and its contract is the law.
 #![tactic(auto)]

@@ -1,4 +1,4 @@
--- Ranges of moments.
+-- The moments that a search asks for: from one on, and before another if it has an end.
 use Rattle.std.specs.Prelude.{ℕ, Bool, true, ◌&&◌, nat_le, nat_lt, Option, Some, None}
 use Rattle.moment_range.specs.declared.range.Range.{Range}
 

@@ -1,4 +1,4 @@
-//! Ranges of moments.
+//! Ranges of moments, with a first moment and perhaps an end.
 
 ghost use Rattle.std.specs.Prelude.{◌≡◌};
 ghost use Rattle.moment_range.specs.Ranges.{is_within};
@@ -8,7 +8,7 @@ ghost use Rattle.moment_range.specs.Ranges.{is_within};
 pub struct Range {
     /// The first moment.
     pub from: u64,
-    /// The first moment behind the range, where it ends.
+    /// The first moment after the range, where it ends.
     pub until: Option<u64>,
 }
 

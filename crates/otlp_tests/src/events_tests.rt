@@ -43,7 +43,7 @@ fn expected(alloc: Global, member: &str, wanted: &str) -> Result<String, AllocEr
     }
 }
 
-/// Whether a trace that was told reads back with nothing skipped.
+/// Whether a trace that was written reads back with nothing skipped.
 fn reads_back(alloc: Global, line: &str) -> Result<bool, Fail> {
     match line.split_once(" {") {
         Some((_, rest)) => {
@@ -55,8 +55,8 @@ fn reads_back(alloc: Global, line: &str) -> Result<bool, Fail> {
     }
 }
 
-/// A row is the member's JSON and what the line gives: how much is skipped and, where the written span has the member, its JSON
-/// there; or the path from the span to the first wrong form.
+/// A row is the member's JSON and what the line gives: how much is skipped and, where the written span has the member,
+/// its JSON there; or the path from the span to the first wrong form.
 fn check(rt: &(impl Abort + AllocGlobal), member: &str, table: &str) -> Result<(), Fail> {
     let alloc = rt.alloc();
     for row in table.lines() {

@@ -193,8 +193,8 @@ fn shown(alloc: Global, line: &[u8]) -> Result<String, AllocError> {
 /// Where each row's path begins.
 const SPAN: &str = "wrong $.resourceSpans[0].scopeSpans[0].spans[0]";
 
-/// A row is a span's member, its JSON and what the line gives: `ok` stands for the span that the five members alone give,
-/// `no` for a span that is rejected, and `wrong` for the path to the span.
+/// A row is a span's member, its JSON and what the line gives: `ok` stands for the span that the five members alone
+/// give, `no` for a span that is rejected, and `wrong` for the path to the span.
 fn check_members(rt: &(impl Abort + AllocGlobal), rows: &str) -> Result<(), AllocError> {
     let alloc = rt.alloc();
     for row in rows.lines() {

@@ -92,7 +92,7 @@ abbrev pub KnowsLater : {P : Type 0} → Meaning P → P → View → (History �
 KnowsLater meaning new v holds =
     (later : View) × meaning.knows new later × IsGrown v.history later.history × holds later.history
 
--- A query was asked over a port: these calls are all that it made. Where the port tells its bytes, what it tells is told of the
+-- A query was asked over a port: these calls are all that it made. Where the port shows its bytes, what it tells is told of the
 -- history that is known afterwards, as it was at some length from that on which was known before; and each block is found to be one.
 pub record HasAsked {P A : Type 0} (meaning : Meaning P) (old : P) (tells : ℕ → List Row → A → Type 0) (r : Result A QueryError) (new : P) : Type 0 where
   pub calls : List Call

@@ -108,7 +108,7 @@ fn of_pinned<P: FlushPort, R: OfBlock>(
     query_result(read)
 }
 
-/// A block's file.
+/// The file by whose number a port reads a block's pages.
 pub(crate) fn file_of(info: &BlockInfo) -> u32
     ensures { result ≡ info.now.file }
 {

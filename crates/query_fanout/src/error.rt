@@ -1,4 +1,4 @@
-//! Why a query could not be answered.
+//! Why a query could not be answered: what `client_run` makes a refusal of.
 
 use thiserror::Error;
 
@@ -8,8 +8,8 @@ pub enum QueryError {
     /// A page read of this query failed.
     #[error("disk-fault")]
     Fault,
-    /// The pages of a pinned block are no block; `at` is the first malformed byte of a stripe that was read, or 0 if the
-    /// block's index names rows that no stripe has.
+    /// The pages of a pinned block are no block; `at` is the first malformed byte of a stripe that was read, or 0 if
+    /// the block's index names rows that no stripe has.
     #[error("not-block file={file} at={at}")]
     NotBlock { file: u32, at: u64 },
     /// Out of memory.

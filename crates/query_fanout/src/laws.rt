@@ -1,11 +1,14 @@
-//! Laws of searches that take a few traces at a time. Each is a theorem: its contract is the statement.
+//! Theorems about searches that take a few traces at a time: in the end the answer is that over all rows.
+//!
+//! Each contract is the statement, and its proof stands in `proofs/laws/`. `rounds` and `taking` call them to have
+//! their contracts; when a program runs they do nothing.
 
 ghost use Rattle.query_fanout.specs.Taking.{TakenAnswerTheWhole, TakesMore, TakesMoreRead};
 
 use column_scan::answered_is_picked;
 
-/// If the sifted rows are covered by the picks that were taken, what is kept in the end is what the search answers over all
-/// rows.
+/// If the sifted rows are covered by the picks that were taken, what is kept in the end is what the search answers
+/// over all rows.
 pub fn taken_answer_the_whole()
     ensures { TakenAnswerTheWhole }
 {

@@ -10,8 +10,8 @@ use span_types::{Memory, Rows, TraceId};
 use std::alloc::Global;
 use std::marker::Model;
 
-/// Rows by trace, which share their spans with those that they were made of. Those of a trace are neighbours, so that they
-/// are found by halving, however many pushes the rows came in. Contracts see the list of them.
+/// Rows by trace, which share their spans with those that they were made of. Those of a trace are neighbours, so that
+/// they are found by halving, however many pushes the rows came in. Contracts see the list of them.
 #[derive(Drop)]
 pub(crate) struct Own {
     run: Run,

@@ -22,7 +22,7 @@ pub(crate) fn picks_of_rows(
     Ok(picks)
 }
 
-// The spans of rows.
+// References to the spans, so that none is copied.
 fn spans_of<'r>(alloc: Global, rows: &'r [SharedRow]) -> Result<Vec<&'r Span>, Memory>
     ensures { IfOk result (λ spans. map (λ s. s.now) spans.items ≡ spans_of rows.now) }
 {

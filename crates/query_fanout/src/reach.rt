@@ -1,4 +1,4 @@
-//! How far all is gone through.
+//! How far all blocks are gone through, as a trace: picks below it can be taken.
 
 ghost use Rattle.std.specs.Prelude.{◌≡◌};
 ghost use Rattle.query_fanout.specs.Rounds.{goes_to, is_below, reach_of};

@@ -23,7 +23,8 @@ use span_types::Memory;
 use std::alloc::Global;
 use store_state::{FlushPort, Look};
 
-/// How far a search has come: all picks of traces that are gone through were taken, and these are the best results of them.
+/// How far a search has come: all picks of traces that are gone through were taken, and these are the best results of
+/// them.
 #[derive(Drop)]
 pub(crate) struct Rounds<'l> {
     pub(crate) scans: Vec<Scan<'l>>,
@@ -34,8 +35,9 @@ pub(crate) struct Rounds<'l> {
 
 /// Goes through all blocks until all picks are taken, and those of the look's rows as well.
 ///
-/// A block's rows ascend by trace. So once each block is gone through up to some trace, all picks below the least of these traces are
-/// there, and are taken. A round needs memory for its own picks, the picks that wait, and the rows of a few traces.
+/// A block's rows ascend by trace. So once each block is gone through up to some trace, all picks below the least of
+/// these traces are there, and are taken. A round needs memory for its own picks, the picks that wait, and the rows of
+/// a few traces.
 pub(crate) fn take_rounds<P: FlushPort>(
     alloc: Global,
     port: &mut P,

@@ -17,8 +17,8 @@ use span_types::Memory;
 use std::alloc::Global;
 use store_state::{FlushPort, Look};
 
-// How many picks are looked for at a time: the stripes that have them mostly lie in the 256 frames of a store's page cache when their
-// rows are read, so that each is read from the disk once.
+// How many picks are looked for at a time: the stripes that have them mostly lie in the 256 frames of a store's page
+// cache when their rows are read, so that each is read from the disk once.
 const MOST: usize = 512;
 
 /// How far a block is gone through: its next stripe, and up to which trace.

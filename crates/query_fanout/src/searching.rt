@@ -1,4 +1,4 @@
-//! Searching.
+//! A search over one look: it is taken, what is found in `rounds` is told, and it is given back in every case.
 
 ghost use Rattle.std.specs.Prelude.{◌++◌, IsTrue, List};
 ghost use Rattle.store_model.specs.Holds.{Hold};
@@ -30,16 +30,16 @@ pub struct Asked {
     pub checked: Checked,
     /// A trace counts of which a span starts in this range.
     pub range: Range,
-    /// How many traces are told at most.
+    /// How many traces are shown at most.
     pub limit: u32,
-    /// How many spans of a spanset are told at most.
+    /// How many spans of a spanset are shown at most.
     pub spans_per_set: u32,
 }
 
 /// What a search finds.
 #[derive(Drop)]
 pub struct SearchAnswer {
-    /// The length of the history of which it tells.
+    /// The length of the history that it is answered from.
     pub as_of: u64,
     /// The results, the first ones first.
     pub results: Results,
@@ -48,13 +48,13 @@ pub struct SearchAnswer {
 /// What a search finds among the first occurrences of all spans, wherever they lie: in the rows of one look and in the
 /// blocks that it pins.
 ///
-/// The blocks are gone through side by side, in order of traces, a few stripes at a time (`rounds.rt`). There the traces are
-/// picked that have a sifted span, one that the query's sieve lets through, each with the latest start among its sifted spans:
-/// in the look's rows, and in each block by the stripes that may have one. Those that are picked in a round are looked up and
-/// answered a few at a time, those of late moments first, but for those of which no result can come among the best so far;
-/// `bounded` says how many pages that is at most. No rows are kept but those of a few traces, beside a list of the look's rows
-/// by trace, which shares them and copies none, and no picks but those of a round and those that wait for one. The look is
-/// given back in every case.
+/// The blocks are gone through side by side, in order of traces, a few stripes at a time (`rounds.rt`). There the
+/// traces are picked that have a sifted span, one that the query's sieve lets through, each with the latest start
+/// among its sifted spans: in the look's rows, and in each block by the stripes that may have one. Those that are
+/// picked in a round are looked up and answered a few at a time, those of late moments first, but for those of which
+/// no result can come among the best so far; `bounded` says how many pages that is at most. No rows are kept but those
+/// of a few traces, beside a list of the look's rows by trace, which shares them and copies none, and no picks but
+/// those of a round and those that wait for one. The look is given back in every case.
 pub fn search<P: FlushPort>(
     alloc: Global,
     port: &mut P,

@@ -62,7 +62,8 @@ impl<'i> OfBlock for Traces<'i> {
     ghost both = { λ s a b x y. (theirs_both s.0.now a b x y, of_traces_both s.0.now a b x y) };
 }
 
-/// Picks are taken: those of late moments first, a few at a time. What is kept are the best of the results so far and of theirs.
+/// Picks are taken: those of late moments first, a few at a time. What is kept are the best of the results so far and
+/// of theirs.
 pub(crate) fn take_picks<P: FlushPort>(
     alloc: Global,
     port: &mut P,

@@ -1,4 +1,4 @@
-//! Looking a trace up.
+//! Looking a trace up over one look: in its own rows and, by filters and index, in each block that it pins.
 
 ghost use Rattle.std.specs.Prelude.{◌≡◌, ◌++◌, IfOk, IsTrue, List};
 ghost use Rattle.span_types.specs.First.{IsFirstOf};
@@ -24,7 +24,7 @@ use store_state::{FlushPort, Look};
 /// The spans of a trace.
 #[derive(Debug, Drop)]
 pub struct TraceAnswer {
-    /// The length of the history of which it tells.
+    /// The length of the history that it is answered from.
     pub as_of: u64,
     /// Their first occurrences, in block order.
     pub rows: Rows,
@@ -67,8 +67,8 @@ impl OfBlock for OneTrace {
 
 /// The first occurrences of a trace's spans, wherever they lie: in the rows of one look and in the blocks that it pins.
 ///
-/// Of each block its filters and its index are asked, and those stripes are read that hold the trace; `bounded` says how many
-/// pages that is at most. No other rows are kept than the trace's. The look is given back in every case.
+/// Of each block its filters and its index are asked, and those stripes are read that hold the trace; `bounded` says
+/// how many pages that is at most. No other rows are kept than the trace's. The look is given back in every case.
 pub fn find_trace<P: FlushPort>(
     alloc: Global,
     port: &mut P,

@@ -58,8 +58,8 @@ fn early_ones(alloc: Global, picks: &[Pick], moment: u64) -> Result<Vec<Pick>, M
     Ok(early)
 }
 
-// A moment at or above which so many picks are for each result that is asked for, if there are so many. Whatever it is, the
-// same results are found.
+// A moment at or above which so many picks are for each result that is asked for, if there are so many. Whatever it
+// is, the same results are found.
 fn late_moment(alloc: Global, picks: &[Pick], limit: u32) -> Result<u64, Memory> {
     let mut moments = Vec::with_capacity(alloc, picks.len())?;
     for pick in picks {

@@ -1,4 +1,5 @@
-//! Tests of the query language: tokens, the queries that texts are, their printed form, and what a check of kinds answers.
+//! Tests of the query language: tokens, the queries that texts are, their printed form, and what a check of kinds
+//! answers.
 //!
 //! They say what no clause says: rows that were worked out by hand, and each public call once.
 #![tactic(auto)]

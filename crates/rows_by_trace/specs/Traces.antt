@@ -1,4 +1,4 @@
--- The rows of a trace.
+-- The rows of one trace among others, as contracts of looks, blocks, queries and merges speak of them.
 use Rattle.std.specs.Prelude.{List, filter, Bool}
 use Rattle.std.specs.Ordering.{is_eq}
 use Rattle.span_types.specs.declared.ids.TraceId.{TraceId}

@@ -1,4 +1,4 @@
-//! The rows of one trace.
+//! Copies of the rows of one trace.
 
 ghost use Rattle.std.specs.Prelude.{◌≡◌, List, IfOk};
 ghost use Rattle.span_types.specs.declared.spans.Row.{Row};

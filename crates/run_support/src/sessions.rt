@@ -9,7 +9,8 @@ use std::mem;
 use std::sync::Wait;
 use std::thread::Threads;
 
-/// A session over the input on the disk, which is left as the run hands it back. What is given has an empty disk in its place.
+/// A session over the input on the disk, which is left as the run hands it back. What is given has an empty disk in
+/// its place.
 pub fn session_on<R: Threads + Wait + Sync>(
     rt: &R,
     alloc: Global,
@@ -45,8 +46,8 @@ pub fn calls_to_open<R: Threads + Wait + Sync>(rt: &R, alloc: Global) -> Result<
     Ok(0)
 }
 
-// The slot 0 of a new store: the next file is 3 (byte 6), the floor 0 (byte 10), and the segment in file 2 (byte 30) begins with the
-// number 0 (byte 34).
+// The slot 0 of a new store: the next file is 3 (byte 6), the floor 0 (byte 10), and the segment in file 2 (byte 30)
+// begins with the number 0 (byte 34).
 const NEW_STORE: [u8; 42] = [
     1, 0x54, 0x53, 0x4c, 0x31, 0, 3, 0, 0, 0, 0, 0, 0, 0, 0, 0, 0, 0, 1, 0, 0, 0, 0, 0, 0, 0, 0, 0,
     0, 0, 2, 0, 0, 0, 0, 0, 0, 0, 0, 0, 0, 0,

@@ -1,5 +1,5 @@
-//! Cuts and flushes in whole sessions: what is idle, what a malformed block and spent numbers of files are told, and what a stopped
-//! flush leaves.
+//! Cuts and flushes in whole sessions: what is idle, what a malformed block and spent numbers of files are answered,
+//! and what a stopped flush leaves.
 
 use crate::filled::{check, filled};
 use disk_model::{Device, MemDisk, cut_through, write_through};

@@ -1,5 +1,10 @@
-//! Tests of runs one after another on one disk: what is durable, what a disk whose calls fail or that stops leaves, and what cuts,
-//! flushes, compactions and the emptying of loose files print, and how many pages a look-up reads. They show what no clause says.
+//! Tests of runs one after another on one disk. They show what no clause says.
+//!
+//! - `series`: runs that end well, and what later ones tell. `durable_tests`: disks whose calls fail, and what a
+//!   stopped run leaves.
+//! - `flush_tests`, `compact_tests`: what cuts, flushes, compactions and the emptying of loose files print.
+//! - `page_tests`: how many pages look-ups and searches read.
+//! - `filled` has what they share: sessions of tables, in which short words stand for long texts.
 #![tactic(auto)]
 
 #[cfg(test)]

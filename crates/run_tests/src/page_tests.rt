@@ -1,5 +1,5 @@
-//! How many pages of the disk look-ups and searches read in whole sessions: few for a trace, fewer for one that isn't there, none twice,
-//! and none for a range that meets no stripe.
+//! How many pages of the disk look-ups and searches read in whole sessions: few for a trace, fewer for one that isn't
+//! there, none twice, and none for a range that meets no stripe.
 
 use crate::filled::check;
 use disk_model::MemDisk;
@@ -8,7 +8,8 @@ use std::process::Abort;
 use std::sync::Wait;
 use std::thread::Threads;
 
-// How many more reads of the disk a session over the lines makes than one that only opens the store. It is to write just that text.
+// How many more reads of the disk a session over the lines makes than one that only opens the store. It is to write
+// just that text.
 fn reads_for<R: Threads + Wait + Sync + Abort + AllocGlobal>(
     rt: &R,
     disk: &mut MemDisk,
@@ -28,9 +29,9 @@ type Case = (&'static str, &'static str, u64, u64);
 
 const NO_TRACE: &str = "ok search as_of=1 traces=0 {\"traces\":[]}\n";
 
-/// Sessions on a disk with a block of one span. A look-up reads a page of the filters, one of the index and one of the stripe, and then no
-/// page again; a trace that isn't there costs two at most. A search reads the block's stripe if some moment of it can be in its range or if
-/// it asks for a text, and looks up what it finds there.
+/// Sessions on a disk with a block of one span. A look-up reads a page of the filters, one of the index and one of the
+/// stripe, and then no page again; a trace that isn't there costs two at most. A search reads the block's stripe if
+/// some moment of it can be in its range or if it asks for a text, and looks up what it finds there.
 static ONE_BLOCK: [Case; 10] = [
     (
         "trace 000000000000000000000000000000a2",
@@ -116,9 +117,9 @@ fn two_blocks(alloc: Global) -> Result<String, AllocError> {
 
 const NO_TRACES: &str = "ok search as_of=2 traces=0 {\"traces\":[]}\n";
 
-/// Sessions on a disk with two blocks, each of which has three stripes, of 256, 256 and 88 rows of some 50 bytes: four, four and two pages.
-/// Its index has four pages, its filters have one. A search by columns reads the stripes once, and one that makes all rows reads no page of
-/// either block twice.
+/// Sessions on a disk with two blocks, each of which has three stripes, of 256, 256 and 88 rows of some 50 bytes:
+/// four, four and two pages. Its index has four pages, its filters have one. A search by columns reads the stripes
+/// once, and one that makes all rows reads no page of either block twice.
 static TWO_BLOCKS: [Case; 2] = [
     ("search { duration > 1s }", NO_TRACES, 20, 20),
     ("search { traceDuration > 1s }", NO_TRACES, 20, 30),

@@ -119,7 +119,8 @@ const EMPTIED: &[Session] = &[(
      ok compact blocks=2 rows=1\nok reclaim files=3\nok reclaim files=0\nok trace as_of=3 spans=1 $trace\n",
 )];
 
-/// After a compaction the pages of the blocks that it joined aren't told any more, and those of the new block are read.
+/// After a compaction a look-up is answered by pages of the new block, and not by cached ones of the blocks that it
+/// joined.
 const REPLACED: &[Session] = &[(
     "$x\ncutall\nflush\n$look\n$y\ncutall\nflush\n$look\ncompact\nreclaim\n$look\n$y\ncutall\nflush\n$look\n",
     "$0ok cutall moved=1\nok flush rows=1\nok trace as_of=1 spans=1 $trace\n\
@@ -140,8 +141,8 @@ pub(crate) const UNLINKED: &str =
 pub(crate) const LINKED_TRACE: &str =
     r#"{"resourceSpans":[{"resource":{"attributes":[]},"scopeSpans":[{"scope":{"attributes":[],"name":"","version":""},"spans":[{"attributes":[],"endTimeUnixNano":"2","events":[{"attributes":[{"key":"k","value":{"intValue":"7"}}],"name":"e","timeUnixNano":"5"}],"kind":0,"links":[{"attributes":[{"key":"l","value":{"boolValue":true}}],"spanId":"00000000000000d1","traceId":"000000000000000000000000000000c1"}],"name":"x","parentSpanId":"","spanId":"00000000000000b1","startTimeUnixNano":"1","status":{"code":0,"message":""},"traceId":"000000000000000000000000000000a1"},{"attributes":[],"endTimeUnixNano":"3","kind":0,"name":"y","parentSpanId":"00000000000000b1","spanId":"00000000000000b2","startTimeUnixNano":"2","status":{"code":0,"message":""},"traceId":"000000000000000000000000000000a1"}]}]}]}"#;
 
-/// Events and links are told alike from memory, from the log, from a block of a flush and from one of a compaction, in the session
-/// and in later ones.
+/// Events and links are shown alike from memory, from the log, from a block of a flush and from one of a compaction,
+/// in the session and in later ones.
 const EVENTS: &[Session] = &[
     (
         "$linked\ncutall\nflush\n$unlinked\n$look\n",

@@ -13,7 +13,8 @@ use traceql_types::{RegexMaker, check};
 /// The number of a block's file.
 pub(crate) const FILE: u32 = 7;
 
-/// What a hint picks in a block: how many traces, the last byte of the first one's id, and how many pages were read for it.
+/// What a hint picks in a block: how many traces, the last byte of the first one's id, and how many pages were read
+/// for it.
 #[derive(Clone, Copy, PartialEq, Eq)]
 pub(crate) struct Picked {
     pub(crate) traces: usize,
@@ -98,7 +99,8 @@ pub(crate) fn picked_in(alloc: Global, block: &BuiltBlock, hint: &Hint) -> Resul
     }
 }
 
-/// Where a block is malformed by a hint's candidates, once these bytes stand at an offset of its first stripe, if it is for them.
+/// Where a block is malformed by a hint's candidates, once these bytes stand at an offset of its first stripe, if it
+/// is for them.
 pub(crate) fn broken_at(
     alloc: Global,
     block: &BuiltBlock,

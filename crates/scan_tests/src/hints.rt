@@ -101,8 +101,8 @@ fn candidates_of_blocks(rt: HostRuntime) {
     }
 }
 
-/// A query, the start of its range, the bytes that stand at an offset of a stripe of one row, and where that is malformed, if it is
-/// read: another length, and one byte too many for the length of the first text, which is empty.
+/// A query, the start of its range, the bytes that stand at an offset of a stripe of one row, and where that is
+/// malformed, if it is read: another length, and one byte too many for the length of the first text, which is empty.
 type Broken = (&'static str, u64, usize, &'static [u8], Option<u64>);
 
 static BROKEN: [Broken; 6] = [
@@ -114,7 +114,7 @@ static BROKEN: [Broken; 6] = [
     ("{ }", 5, 9, &[128, 0], None),
 ];
 
-/// Compares where a hint's candidates are told to be malformed with what is expected of it.
+/// Compares where a hint's candidates are found to be malformed with what is expected of it.
 fn check_broken(rt: &(impl Abort + AllocGlobal), case: &Broken) {
     let (query, from, offset, new, wanted) = case;
     let block = block_of(rt.alloc(), PARENT).expect(rt, "a block");

@@ -1,5 +1,8 @@
-//! Tests of searches by pages: hints, candidates of blocks, spans that were pushed twice, and long random runs whose searches
-//! are compared with an answer over all rows.
+//! Tests of searches by pages: what is picked, what repeats of a span do, and long random runs.
+//!
+//! - What is picked: `hints`, `sieves`, over `blocks` of spans that stand in a text.
+//! - Spans that were pushed twice: `repeats`.
+//! - Long random runs: `plays`, whose searches are compared with `model`, an answer over all rows.
 #![tactic(auto)]
 
 #[cfg(test)]

@@ -1,4 +1,5 @@
-//! Random runs: pushes, cuts, flushes and compactions, and a search after each of them, whose reply is compared with the model's.
+//! Random runs: pushes, cuts, flushes and compactions, and a search after each of them, whose reply is compared with
+//! the model's.
 
 use crate::model::Model;
 use disk_model::MemDisk;
@@ -70,7 +71,8 @@ struct Sizes {
     push: u64,
 }
 
-/// A span of one of the traces, with a parent of the same trace or none. The same ids come again and again, with other fields.
+/// A span of one of the traces, with a parent of the same trace or none. The same ids come again and again, with other
+/// fields.
 fn span(alloc: Global, dice: &mut Dice, sizes: Sizes) -> Result<String, Memory> {
     let trace = dice.roll(sizes.traces).wrapping_add(1);
     let id = dice.roll(sizes.spans).wrapping_add(1);
@@ -186,7 +188,8 @@ fn script_of(alloc: Global, seed: u64, sizes: Sizes, steps: u64) -> Result<Scrip
     Ok(script)
 }
 
-/// The number of the first line whose reply is another one than it was to be; none if there is no such line, and none is missing.
+/// The number of the first line whose reply is another one than it was to be; none if there is no such line, and none
+/// is missing.
 fn first_wrong(script: &Script, replies: &str) -> Option<usize> {
     let mut lines = replies.lines();
     for (at, wanted) in script.wanted.as_slice().iter().enumerate() {

@@ -1,4 +1,5 @@
-//! A span that was pushed twice: its later copy, in another block or in memory, makes no match, hides none, and ranks no trace.
+//! A span that was pushed twice: its later copy, in another block or in memory, makes no match, hides none, and ranks
+//! no trace.
 
 use disk_model::MemDisk;
 use run_support::session_on;
@@ -8,7 +9,8 @@ use std::process::Abort;
 use std::sync::Wait;
 use std::thread::Threads;
 
-/// A push of the span b1 of a trace, which is given by its last byte. Its status is `ok` if it is named `old`, else `error`.
+/// A push of the span b1 of a trace, which is given by its last byte. Its status is `ok` if it is named `old`, else
+/// `error`.
 fn push(alloc: Global, trace: &str, name: &str, start: u64, end: u64) -> Result<String, Memory> {
     let status = if name == "old" { 1 } else { 2 };
     Ok(format!(in alloc;
@@ -18,13 +20,14 @@ fn push(alloc: Global, trace: &str, name: &str, start: u64, end: u64) -> Result<
     )?)
 }
 
-/// What a search tells of the trace a1, of which the first push counts.
+/// What a search shows of the trace a1, of which the first push counts.
 const OLD: &str =
     r#"ok search as_of=3 traces=1 {"traces":[{"durationNanos":"10","rootName":"old","rootService":null,"spanSets":[{"by":[],"matched":1,"spans":[{"attributes":[],"durationNanos":"10","name":"old","spanId":"00000000000000b1","startTimeUnixNano":"100"}]}],"startTimeUnixNano":"100","traceId":"000000000000000000000000000000a1"}]}"#;
 
 const NOTHING: &str = r#"ok search as_of=3 traces=0 {"traces":[]}"#;
 
-/// Searches, and what each is to be told. The trace a2 starts at 80, between the first copy's start and the later one's.
+/// Searches, and what each is to be answered. The trace a2 starts at 80, between the first copy's start and the later
+/// one's.
 static SEARCHES: [(&str, &str); 8] = [
     ("search limit=1 { }", OLD),
     ("search { name = \"new\" }", NOTHING),
@@ -59,7 +62,7 @@ fn stored(alloc: Global, places: &[&str; 3]) -> Result<String, Memory> {
     Ok(format!(in alloc; "{old}{first}{new}{later}{other}{end}")?)
 }
 
-/// Compares what a search after these lines is told with what is expected of it.
+/// Compares what a search after these lines is answered with what is expected of it.
 fn check<R: Threads + Wait + Sync + Abort + AllocGlobal>(
     rt: &R,
     stored: &str,

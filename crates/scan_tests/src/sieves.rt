@@ -1,4 +1,5 @@
-//! What a sieve picks among three spans, each of its own trace: what is asked of kind, status and duration alone counts.
+//! What a sieve picks among three spans, each of its own trace: what is asked of kind, status and duration alone
+//! counts.
 
 use crate::blocks::{Failure, rows_of};
 use column_scan::{Pick, picks_of_spans, sieve};
@@ -8,7 +9,8 @@ use std::alloc::Global;
 use traceql_parse::parse;
 use traceql_types::{RegexMaker, check};
 
-/// A server's span that failed, 1 to 11 ns; a client's that went well, 2 to 7 ns; and one that says neither and ends before it starts.
+/// A server's span that failed, 1 to 11 ns; a client's that went well, 2 to 7 ns; and one that says neither and ends
+/// before it starts.
 const SPANS: &str =
     r#"{"traceId":"000000000000000000000000000000a1","spanId":"00000000000000b1","name":"a","kind":2,"status":{"code":2},"startTimeUnixNano":"1","endTimeUnixNano":"11"},
 {"traceId":"000000000000000000000000000000a2","spanId":"00000000000000b1","name":"b","kind":3,"status":{"code":1},"startTimeUnixNano":"2","endTimeUnixNano":"7"},

@@ -1,4 +1,4 @@
--- The first trace of rows in block order, and the rows behind it.
+-- The first trace of rows in block order, and the rows after it.
 use Rattle.std.proofs.Common.{◌≡◌, ◌≢◌, ◌⊎◌, inl, inr, ℕ, zero, suc, ◌+◌, ◌<◌, List, [], ◌∷◌, ◌++◌, Bool, true, false, refl, sym, ◌∙◌, ap, arith, length, take, drop, filter, slice_index_or}
 use Rattle.std.specs.List.{AllPairs}
 use Rattle.std.specs.Ordering.{is_eq, ordering_then, ordering_reverse}
@@ -107,7 +107,7 @@ cut_front (r ∷ rs) n some more front sorted = record {
         (then_less _ _ (sorted.ordered n (n + suc k) d (omega arith) l))
         (front.ends d (omega arith))
 
--- what is behind rows in block order is in block order
+-- what is after rows in block order is in block order
 pub sorted_later : (rows : List Row) (n : ℕ) → IsSorted rows → IsSorted (drop n rows)
 sorted_later rows n sorted = record {
   apart = dropped (λ a b. row_key a ≢ row_key b) sorted.apart;

@@ -1,4 +1,4 @@
--- The traces of rows that are in the range: the first trace, where it is, and those of the rows behind it.
+-- The traces of rows that are in the range: the first trace, where it is, and those of the rows after it.
 use Rattle.std.proofs.Common.{◌≡◌, ◌⊎◌, inl, inr, ℕ, ◌<◌, take, drop, ◌==◌, eqb-true, List, [], ◌∷◌, ◌++◌, Bool, true, false, Option, Some, None, refl, sym, ◌∙◌, ap, subst, arith, All, Contains, length, append_assoc}
 use Rattle.std.specs.List.{IsDistinct}
 use Rattle.std.specs.List.Sorted.{IsPermutation}
@@ -47,7 +47,7 @@ placed range id front later t s is = record {
   within = ap (is_in_range range) is.rows ∙ is.within;
 }
 
--- A trace of the rows behind the front is another one.
+-- A trace of the rows after the front is another one.
 other_trace : (range : Range) (id : TraceId) (front later : List Row) (other : TraceId) → Splits id front later → is_in_range range (rows_of_trace other later) ≡ true →
     is_eq (trace_cmp id other) ≡ false
 other_trace range id front later other s within =
@@ -66,7 +66,7 @@ behind range id front later t s is = record {
   within = is.within;
 }
 
--- ---- the first trace and those behind it
+-- ---- the first trace and those after it
 
 with_first : (range : Range) (id : TraceId) (front later : List Row) (found : Option TraceInRange) (more : List TraceInRange) → Splits id front later →
     IsPart range front found → AreInRange range later more → AreInRange range (front ++ later) (option_to_list found ++ more)
@@ -115,7 +115,7 @@ no_traces range rows none = subst (λ rs. AreInRange range rs []) (sym none) (re
   once = IsDistinct-from_apart is_same_trace [] (λ i j d l h. absurd (omega arith));
 })
 
--- A step of the walk: what completes the rows behind completes all.
+-- A step of the walk: what completes the rows after it completes all.
 pub walked : (range : Range) (rows rest front later : List Row) (n : ℕ) (found : Option TraceInRange) (before after : List TraceInRange) → Cut rest n →
     front ≡ take n rest → later ≡ drop n rest → IsPart range front found → after ≡ before ++ option_to_list found →
     ((more : List TraceInRange) → AreInRange range rest more → AreInRange range rows (before ++ more)) →

@@ -12,7 +12,7 @@ use Rattle.traceql_types.specs.declared.pattern.Pattern.{Pattern}
 abbrev Up : List ℕ → Type 0
 Up xs = AllPairs (λ a b. a < b) xs
 
--- a member is the head or stands behind it
+-- a member is the head or stands after it
 split : (x : ℕ) (xs : List ℕ) (y k : ℕ) → k < length (x ∷ xs) → slice_index_or (x ∷ xs) k y ≡ y → (x ≡ y) ⊎ Contains xs y
 split x xs y zero l e = inl e
 split x xs y (suc k) l e = inr (k, omega arith, e)
@@ -34,7 +34,7 @@ heads x xs y ys a b (inr (k, l, e)) (inr (m, h, f)) =
     let down : x < y = behind x xs a y m h f in
     absurd (omega arith)
 
--- a member behind the head of one list is behind the head of the other
+-- a member after the head of one list is after the head of the other
 moved : (x : ℕ) (xs : List ℕ) (y : ℕ) (ys : List ℕ) → Up (x ∷ xs) → x ≡ y → (n : ℕ) → Contains xs n → (y ≡ n) ⊎ Contains ys n → Contains ys n
 moved x xs y ys a same n (k, l, e) (inl is) =
     let less : x < n = behind x xs a n k l e in

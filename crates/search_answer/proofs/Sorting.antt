@@ -13,7 +13,7 @@ use Rattle.std.proofs.lemmas.List.Sums.{count_by-le-length, sum_by-append, sum_b
 abbrev pub NotBefore : {A : Type 0} → (A → A → Bool) → A → A → Type 0
 NotBefore before x y = before y x ≡ false
 
--- each element stands so to all behind it
+-- each element stands so to all after it
 abbrev pub Pairs : {A : Type 0} → (A → A → Type 0) → List A → Type 0
 Pairs R [] = Unit {0}
 Pairs R (x ∷ xs) = AllByRecursion (R x) xs × Pairs R xs
@@ -121,14 +121,14 @@ few_before {A} before order xs sorted i d l =
 
 -- ---- the first of the first
 
--- A list's first n elements in its order, and what stands behind them.
+-- A list's first n elements in its order, and what stands after them.
 pub record FirstBy {A : Type 0} (before : A → A → Bool) (xs : List A) (n : ℕ) (first : List A) : Type 0 where
   pub all : List A
   pub same : IsPermutation xs all
   pub sorted : IsSortedBy before all
   pub first_are : first ≡ take n all
 
--- What isn't behind w, which goes before z, goes before z.
+-- What isn't after w, which goes before z, goes before z.
 through : {A : Type 0} (before : A → A → Bool) → IsStrictWeakOrder before → (u w z : A) → before w z ≡ true → before w u ≡ false → before u z ≡ true
 through before order u w z goes later = picked (cases_Bool (before u z))
   where
@@ -136,7 +136,7 @@ through before order u w z goes later = picked (cases_Bool (before u z))
     picked (inl e) = e
     picked (inr e) = absurd (true≢false (sym goes ∙ order.chain w u z later e))
 
--- Where a part has more than n elements, none of those behind its first n goes before one of the first n of the firsts: there
+-- Where a part has more than n elements, none of those after its first n goes before one of the first n of the firsts: there
 -- would be n of the part alone that go before that one.
 behind_part : {A : Type 0} (before : A → A → Bool) → IsStrictWeakOrder before → (n : ℕ) (part joined first : List A) → IsSortedBy before part → IsSortedBy before joined →
     ((p : A → Bool) → count_by p (take n part) ≤ count_by p joined) → first ≡ take n joined →
@@ -181,7 +181,7 @@ shuffled a ra b rb =
     (subst (λ l. IsPermutation ((ra ++ b) ++ rb) l) (append_assoc b ra rb)
     (IsPermutation-append_left rb (ra ++ b) (b ++ ra) (IsPermutation-append_comm ra b))))))
 
--- All elements are the first of the firsts, and those behind them.
+-- All elements are the first of the firsts, and those after them.
 parted : {A : Type 0} (before : A → A → Bool) (n : ℕ) (xs ys a b first : List A) (left : FirstBy before xs n a) (right : FirstBy before ys n b) (joined : FirstBy before (a ++ b) n first) →
     IsPermutation (xs ++ ys) (first ++ (drop n joined.all ++ (drop n left.all ++ drop n right.all)))
 parted {A} before n xs ys a b first left right joined =
@@ -198,7 +198,7 @@ parted {A} before n xs ys a b first left right joined =
     halves : (all front : List A) → front ≡ take n all → all ≡ front ++ drop n all
     halves all front is = sym (take-append-drop n all) ∙ ap (λ l. l ++ drop n all) (sym is)
 
--- None of those behind goes before one of the first.
+-- None of those after them goes before one of the first.
 none_goes : {A : Type 0} (before : A → A → Bool) → IsStrictWeakOrder before → (n : ℕ) (xs ys a b first : List A) (left : FirstBy before xs n a) (right : FirstBy before ys n b)
     (joined : FirstBy before (a ++ b) n first) → (i : ℕ) (d : A) → i < length first →
     All (NotBefore before (slice_index_or first i d)) (drop n joined.all ++ (drop n left.all ++ drop n right.all))
@@ -228,7 +228,7 @@ none_goes {A} before order n xs ys a b first left right joined i d l =
         let w_is : slice_index_or joined.all (n + j) d ≡ slice_index_or (drop n joined.all) j e = get_or_default joined.all (n + j) d e there ∙ sym (get_or-drop n joined.all j e) in
         subst (λ z. before (slice_index_or (drop n joined.all) j e) z ≡ false) (sym z_is) (subst (λ w. before w (slice_index_or joined.all i d) ≡ false) w_is far)
 
--- Where the firsts are fewer than n nothing stands behind them.
+-- Where the firsts are fewer than n nothing stands after them.
 nothing_behind : {A : Type 0} (before : A → A → Bool) (n : ℕ) (xs ys a b first : List A) (left : FirstBy before xs n a) (right : FirstBy before ys n b) (joined : FirstBy before (a ++ b) n first) →
     length first < n → length (drop n joined.all ++ (drop n left.all ++ drop n right.all)) ≡ 0
 nothing_behind before n xs ys a b first left right joined few =

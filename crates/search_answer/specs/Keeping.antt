@@ -1,4 +1,4 @@
--- The best results so far.
+-- The best results so far, as contracts see them, and whether one more trace can come among them.
 use Rattle.std.specs.Prelude.{ℕ, ◌-◌, ◌==◌, List, Bool, false, not, ◌||◌, ◌&&◌, Option, None, Some, length, nat_lt, slice_get}
 use Rattle.std.specs.Ordering.{is_lt}
 use Rattle.span_types.specs.Orders.{trace_cmp}

@@ -42,7 +42,7 @@ impl Best {
         }
     }
 
-    /// The best of these and of more results. The one error is want of memory.
+    /// The best of these and of more results. The one error is out of memory.
     pub fn with(self, alloc: Global, more: Results) -> Result<Best, Memory>
         ensures limit { IfOk result (λ best. best.limit ≡ self.limit) }
         ensures first { IfOk result (λ best. AreFirst (self.kept ++ more) self.limit best.kept) }
@@ -55,8 +55,8 @@ impl Best {
         })
     }
 
-    /// Whether a result of the trace that starts at that moment, in nanoseconds since 1970, or earlier can come among the
-    /// best.
+    /// Whether a result of the trace that starts at that moment, in nanoseconds since 1970, or earlier can come among
+    /// the best.
     pub fn may_take(&self, trace: TraceId, latest: u64) -> bool
         ensures is { result ≡ may_come self.now trace latest }
         ensures full { result ≡ false → length self.now.kept ≡ self.now.limit }

@@ -1,4 +1,4 @@
-//! How much a search shows.
+//! How much a search shows, by the options of its line.
 
 /// How many results a search shows, and how much of each.
 #[derive(Clone, Copy, Debug, PartialEq, Eq)]

@@ -1,4 +1,8 @@
-//! Laws of answers: of several traces, and of parts of them that are looked at by themselves, as in several threads.
+//! Theorems about answers: of several traces, and of parts of them that are looked at by themselves, as in several
+//! threads.
+//!
+//! Each function has an empty body: its contract is the statement, and its proof stands in `proofs/laws/`. Nothing
+//! calls them; proofs of `query_fanout` cite the lemmas.
 
 ghost use Rattle.search_answer.specs.Best.{FirstStays, PickedAnswerTheWhole};
 ghost use Rattle.search_answer.specs.Parts.{EachIsAnswered, FirstOfFirsts, JoinedAnswers, OneAnswer, PartedAnswers};
@@ -26,8 +30,8 @@ pub fn first_stays()
     ensures { FirstStays }
 {}
 
-/// If each trace of which a query answers something is picked, the first occurrences of the picked traces' rows have the
-/// answer that those of all rows have.
+/// If each trace of which a query answers something is picked, the first occurrences of the picked traces' rows have
+/// the answer that those of all rows have.
 pub fn picked_answer_the_whole()
     ensures { PickedAnswerTheWhole }
 {}

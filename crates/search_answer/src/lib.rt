@@ -1,8 +1,14 @@
 //! What a search answers over rows in memory.
 //!
-//! The entry point is `answer`; what it promises is `IsAnswer` of `specs/Answers.antt`. The calls that it is made of stand
-//! by themselves, so that traces that come from elsewhere, or are looked at in several threads, are answered by the same
-//! ones; `laws` says how the parts' answers are joined.
+//! - `search` has the entry point, `answer`: `traces` gives the traces in the range, `ranking` their order, and
+//!   `results` evaluates them in that order until there are enough.
+//! - `best` keeps the best results so far, for a caller that has the rows of a few traces at a time, as `query_fanout`
+//!   has.
+//! - `bounds` says how much is shown; `threads` says that rows and results may go to another thread.
+//! - `laws` holds theorems: how the answers of parts are joined.
+//!
+//! What `answer` promises is `IsAnswer` of `specs/Answers.antt`. The calls that it is made of stand by themselves, so
+//! that traces that come from elsewhere, or are looked at in several threads, are answered by the same ones.
 #![tactic(auto)]
 
 mod best;

@@ -14,8 +14,9 @@ fn in_order(a: &TraceInRange<'_>, b: &TraceInRange<'_>) -> Ordering
     b.start.cmp(&a.start).then(a.trace.cmp(&b.trace))
 }
 
-/// The traces in the order in which a search shows them: the latest start first, and of one start by trace id. A trace's
-/// result has its start and its id, so results that are made in this order need no ranking. It takes no memory.
+/// The traces in the order in which a search shows them: the latest start first, and of one start by trace id. A
+/// trace's result has its start and its id, so results that are made in this order need no ranking. It takes no
+/// memory.
 pub fn rank_traces<'r>(traces: Vec<TraceInRange<'r>>) -> Vec<TraceInRange<'r>>
     ensures same { IsPermutation traces.entry.items result.items }
     ensures sorted { IsSorted trace_rank_cmp result.items }

@@ -1,4 +1,4 @@
-//! The results of traces that were ranked.
+//! The results of traces that were ranked: each is evaluated in turn, until as many have a result as are asked for.
 
 ghost use Rattle.std.specs.Prelude.{◌≡◌, All, IfOk};
 ghost use Rattle.span_tree.specs.Nodes.{IsOneTrace};
@@ -15,10 +15,10 @@ use std::alloc::Global;
 use traceql_types::Checked;
 use traceql_value::Matchers;
 
-/// The results of the first `limit` of these traces of which the query answers something, in their order, with the first
-/// `spans_per_set` spans of each spanset. No trace after them is evaluated, and none twice.
+/// The results of the first `limit` of these traces of which the query answers something, in their order, with the
+/// first `spans_per_set` spans of each spanset. No trace after them is evaluated, and none twice.
 ///
-/// The matchers are those of the query's patterns. The one error is want of memory.
+/// The matchers are those of the query's patterns. The one error is out of memory.
 pub fn first_results(
     alloc: Global,
     checked: &Checked,

@@ -1,4 +1,5 @@
-//! The answer to a search.
+//! The entry point: rows to the answer of a search, all at once. `query_fanout` calls it for the rows of a few traces
+//! at a time.
 
 ghost use Rattle.std.specs.Prelude.{List, IfOk};
 ghost use Rattle.span_types.specs.First.{IsFirstOf};
@@ -18,9 +19,9 @@ use traceql_value::Matchers;
 /// first `spans_per_set` spans.
 ///
 /// The rows are first occurrences in block order. The traces in the range are ranked before any is evaluated, and are
-/// then evaluated in that order, each once and whole, until there are as many results as are shown: so a trace of which
-/// nothing is shown costs no copy, and one that comes after the last result no evaluation. What searches for the query's
-/// patterns is made once. The one error is want of memory.
+/// then evaluated in that order, each once and whole, until there are as many results as are shown: so a trace of
+/// which nothing is shown costs no copy, and one that comes after the last result no evaluation. What searches for the
+/// query's patterns is made once. The one error is out of memory.
 pub fn answer(
     alloc: Global,
     checked: &Checked,

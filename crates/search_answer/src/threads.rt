@@ -1,4 +1,5 @@
-//! Rows and results among threads.
+//! Rows and results among threads: that their types may be handed from one to another. Nothing here runs in the
+//! program.
 
 ghost use Rattle.search_answer.specs.Threads.{ResultIsSend, ResultIsSync, RowIsSend, RowIsSync};
 

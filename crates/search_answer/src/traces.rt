@@ -23,8 +23,8 @@ pub struct TraceInRange<'r> {
     pub rows: &'r [Row],
 }
 
-/// The traces of which a span starts in the range, each once. The rows are first occurrences in block order, so those of
-/// a trace stand together, and its first row starts earliest. No row is copied; the one error is want of memory.
+/// The traces of which a span starts in the range, each once. The rows are first occurrences in block order, so those
+/// of a trace stand together, and its first row starts earliest. No row is copied; the one error is out of memory.
 pub fn traces_in_range<'r>(
     alloc: Global,
     range: Range,
@@ -65,21 +65,19 @@ fn of_one_trace(a: &Row, b: &Row) -> bool
     a.span.trace.cmp(&b.span.trace).is_eq()
 }
 
-// Whether one of the rows starts in the range.
+// One span in the range is enough: then the whole trace is answered, with the spans outside.
 fn starts_in(range: Range, rows: &[Row]) -> bool
     ensures { result ≡ is_in_range range rows.now }
 {
     rows.iter().any(|row| range.holds(row.span.start))
 }
 
-// A row's trace.
 fn trace_of(row: &Row) -> TraceId
     ensures { result ≡ row.now.span.trace }
 {
     row.span.trace
 }
 
-// When a row's span starts.
 fn start_of(row: &Row) -> u64
     ensures { result ≡ row.now.span.start }
 {

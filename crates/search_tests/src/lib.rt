@@ -1,6 +1,10 @@
 //! Tests of searches: values, relations among spans, what queries select and leave, and the text of results.
 //!
 //! They say what no clause says: rows that were worked out by hand, and each public call once.
+//!
+//! - Values: `values`, `ratios`, `chains` (long ones on a small stack). Relations: `relations`.
+//! - Whole searches: `searches`, `one_span`, and `texts` for the text of results.
+//! - What they share: `lines` (rows and queries of texts) and `told` (results as texts of tables).
 #![tactic(auto)]
 
 #[cfg(test)]

@@ -1,5 +1,5 @@
-//! Rows of lines, queries of texts, and what searches give, as the tests of this crate take them. They are none if a text is
-//! refused or memory runs out.
+//! Rows of lines, queries of texts, and what searches give, as the tests of this crate take them. They are none if a
+//! text is refused or memory runs out.
 
 use moment_range::Range;
 use otlp_spans::read_line;

@@ -1,13 +1,13 @@
-//! The five relations over traces that were worked out by hand: chains, several roots, rings with and without a tail, spans
-//! that are their own parents, and spans whose parent isn't there.
+//! The five relations over traces that were worked out by hand: chains, several roots, rings with and without a tail,
+//! spans that are their own parents, and spans whose parent isn't there.
 
 use crate::lines::{ALL, ALWAYS, results_of};
 use spanset_eval::{Results, TraceResult};
 use std::alloc::{AllocError, Global};
 use std::process::Abort;
 
-/// A trace, whose spans have the ids from 1 on, as the ids of their parents, 0 where there is none; its marked spans; and
-/// their children, descendants, parents, ancestors and siblings.
+/// A trace, whose spans have the ids from 1 on, as the ids of their parents, 0 where there is none; its marked spans;
+/// and their children, descendants, parents, ancestors and siblings.
 type Case = (&'static [u64], &'static str, [&'static str; 5]);
 
 const CHAIN: &[u64] = &[0, 1, 2, 3];

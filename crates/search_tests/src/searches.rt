@@ -6,8 +6,8 @@ use moment_range::Range;
 use search_answer::Bounds;
 use std::process::Abort;
 
-/// One trace: a chain `a`, `b`, `c` with a sibling `s` of `b`; a ring of `p` and `q`, and its tail `t`, a child of `p`; the
-/// orphans `o` and `n` of one parent that isn't there; and `l` alone.
+/// One trace: a chain `a`, `b`, `c` with a sibling `s` of `b`; a ring of `p` and `q`, and its tail `t`, a child of
+/// `p`; the orphans `o` and `n` of one parent that isn't there; and `l` alone.
 const KIN: &str =
     r#"{"resourceSpans":[{"scopeSpans":[{"spans":[{"traceId":"000000000000000000000000000000a1","spanId":"0000000000000001","parentSpanId":"","name":"a","startTimeUnixNano":"1","endTimeUnixNano":"2"},{"traceId":"000000000000000000000000000000a1","spanId":"0000000000000002","parentSpanId":"0000000000000001","name":"b","startTimeUnixNano":"1","endTimeUnixNano":"2"},{"traceId":"000000000000000000000000000000a1","spanId":"0000000000000003","parentSpanId":"0000000000000002","name":"c","startTimeUnixNano":"1","endTimeUnixNano":"2"},{"traceId":"000000000000000000000000000000a1","spanId":"0000000000000004","parentSpanId":"0000000000000001","name":"s","startTimeUnixNano":"1","endTimeUnixNano":"2"},{"traceId":"000000000000000000000000000000a1","spanId":"0000000000000005","parentSpanId":"0000000000000006","name":"p","startTimeUnixNano":"1","endTimeUnixNano":"2"},{"traceId":"000000000000000000000000000000a1","spanId":"0000000000000006","parentSpanId":"0000000000000005","name":"q","startTimeUnixNano":"1","endTimeUnixNano":"2"},{"traceId":"000000000000000000000000000000a1","spanId":"0000000000000007","parentSpanId":"0000000000000005","name":"t","startTimeUnixNano":"1","endTimeUnixNano":"2"},{"traceId":"000000000000000000000000000000a1","spanId":"0000000000000008","parentSpanId":"0000000000000099","name":"o","startTimeUnixNano":"1","endTimeUnixNano":"2"},{"traceId":"000000000000000000000000000000a1","spanId":"0000000000000009","parentSpanId":"0000000000000099","name":"n","startTimeUnixNano":"1","endTimeUnixNano":"2"},{"traceId":"000000000000000000000000000000a1","spanId":"000000000000000a","parentSpanId":"","name":"l","startTimeUnixNano":"1","endTimeUnixNano":"2"}]}]}]}"#;
 
@@ -38,8 +38,8 @@ const SELECTED: &str = r#"{ name =~ "a|q|o" } > { name =~ "c|p|n|s" } => s p
 ({ name = "a" } || { name = "q" }) > { } => b s p
 { name = "a" } > { } > { } => c"#;
 
-/// One trace of four spans without parents. Of `e` and `f`, `v` is 1 and 2 and `w` is `x`; of `g`, `v` is the text `2` and
-/// `w` is `y`; `h`, which has no `v`, starts later and has failed, and its `w` is `y`. Each takes 3 nanoseconds.
+/// One trace of four spans without parents. Of `e` and `f`, `v` is 1 and 2 and `w` is `x`; of `g`, `v` is the text `2`
+/// and `w` is `y`; `h`, which has no `v`, starts later and has failed, and its `w` is `y`. Each takes 3 nanoseconds.
 const SHOP: &str =
     r#"{"resourceSpans":[{"scopeSpans":[{"spans":[{"traceId":"000000000000000000000000000000b1","spanId":"0000000000000001","parentSpanId":"","name":"e","startTimeUnixNano":"1","endTimeUnixNano":"4","attributes":[{"key":"v","value":{"intValue":"1"}},{"key":"w","value":{"stringValue":"x"}}]},{"traceId":"000000000000000000000000000000b1","spanId":"0000000000000002","parentSpanId":"","name":"f","startTimeUnixNano":"1","endTimeUnixNano":"4","attributes":[{"key":"v","value":{"intValue":"2"}},{"key":"w","value":{"stringValue":"x"}}]},{"traceId":"000000000000000000000000000000b1","spanId":"0000000000000003","parentSpanId":"","name":"g","startTimeUnixNano":"1","endTimeUnixNano":"4","attributes":[{"key":"v","value":{"stringValue":"2"}},{"key":"w","value":{"stringValue":"y"}}]},{"traceId":"000000000000000000000000000000b1","spanId":"0000000000000004","parentSpanId":"","name":"h","startTimeUnixNano":"9","endTimeUnixNano":"12","status":{"code":2},"attributes":[{"key":"w","value":{"stringValue":"y"}}]}]}]}]}"#;
 

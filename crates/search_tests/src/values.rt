@@ -9,9 +9,9 @@ use traceql_syntax::{FieldExpr, Stage};
 use traceql_types::Checked;
 use traceql_value::{EvalContext, Matchers, Value, Values, field_value};
 
-/// Five spans of one trace. The first has no parent, and neither have the second and the third, which begin before it and
-/// together; of these two the third has the lesser id. The fourth's parent is missing, and it ends before it begins. The
-/// fifth is a child of the third.
+/// Five spans of one trace. The first has no parent, and neither have the second and the third, which begin before it
+/// and together; of these two the third has the lesser id. The fourth's parent is missing, and it ends before it
+/// begins. The fifth is a child of the third.
 const LINE: &str =
     r#"{"resourceSpans":[{"resource":{"attributes":[{"key":"service.name","value":{"stringValue":"shop"}},{"key":"v","value":{"stringValue":"far"}},{"key":"only","value":{"stringValue":"res"}}]},"scopeSpans":[{"scope":{"name":"lib","version":"","attributes":[{"key":"lang","value":{"stringValue":"rust"}}]},"spans":[{"traceId":"000102030405060708090a0b0c0d0e0f","spanId":"0000000000000001","name":"later","startTimeUnixNano":"200","endTimeUnixNano":"400"},{"traceId":"000102030405060708090a0b0c0d0e0f","spanId":"0000000000000003","name":"first","startTimeUnixNano":"100","endTimeUnixNano":"110"},{"traceId":"000102030405060708090a0b0c0d0e0f","spanId":"0000000000000002","name":"second","startTimeUnixNano":"100","endTimeUnixNano":"390"},{"traceId":"000102030405060708090a0b0c0d0e0f","spanId":"0000000000000004","parentSpanId":"00000000000000ff","name":"orphan","startTimeUnixNano":"50","endTimeUnixNano":"40"},{"traceId":"000102030405060708090a0b0c0d0e0f","spanId":"00000000000000ab","parentSpanId":"0000000000000002","name":"pay","startTimeUnixNano":"120","endTimeUnixNano":"150","kind":3,"status":{"code":2,"message":"late"},"attributes":[{"key":"v","value":{"intValue":"7"}},{"key":"w","value":{"stringValue":"a"}},{"key":"flag","value":{"boolValue":true}},{"key":"neg","value":{"intValue":"-7"}},{"key":"least","value":{"intValue":"-9223372036854775808"}}]}]}]}]}"#;
 
@@ -235,7 +235,8 @@ fn last_value(rt: &impl Abort, context: &mut EvalContext<'_, '_>, expr: &FieldEx
     context.value(expr, &row.span).expect(rt, "memory")
 }
 
-/// Asserts that the expression is true for the last span of the first line's trace, when that trace starts, and how long it lasts.
+/// Asserts that the expression is true for the last span of the first line's trace, when that trace starts, and how
+/// long it lasts.
 fn check_context(rt: &(impl Abort + AllocGlobal), checked: &Checked, trace: &[Row]) {
     let operand = operand_of(checked).expect(rt, "an expression");
     let matchers = Matchers::of(rt.alloc(), checked).expect(rt, "memory");

@@ -1,4 +1,4 @@
-//! Selected fields in their printed form.
+//! Selected fields in their printed form, from a query: the names under which results show them.
 
 ghost use Rattle.std.specs.Prelude.{◌≡◌, ◌++◌, IfOk, OnOk, map};
 ghost use Rattle.traceql_syntax.specs.Trees.{query_tree, stage_tree};
@@ -15,7 +15,7 @@ use traceql_syntax::{Query, Stage};
 pub type Texts = Seq<Text>;
 
 /// The fields that a query's `select` stages name, in the text's order, each in its printed form. A field that is named
-/// twice stands there twice. It fails only for want of memory.
+/// twice stands there twice. It fails only if memory runs out.
 #[tactic(auto, unfolding(crate::specs::Fields::printed_fields))]
 pub fn printed_fields(alloc: Global, query: &Query) -> Result<Texts, Memory>
     ensures { IfOk result (λ texts. texts ≡ printed_fields (query_tree query.now)) }
@@ -27,7 +27,7 @@ pub fn printed_fields(alloc: Global, query: &Query) -> Result<Texts, Memory>
     Ok(Texts::of(texts))
 }
 
-/// Puts the fields of a stage behind others.
+/// Puts the fields of a stage after others.
 fn push_fields(alloc: Global, texts: &mut Vec<Text>, stage: &Stage) -> Result<(), Memory>
     ensures { OnOk result (texts.new.items
         ≡ texts.old.items ++ map field_text (fields_of_stage (stage_tree stage.now))) }

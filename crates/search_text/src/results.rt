@@ -1,4 +1,4 @@
-//! Writing a search's results.
+//! Writing a search's results, results to JSON.
 
 ghost use Rattle.std.specs.Prelude.{◌≡◌, IfOk, OnOk, codes, decimal};
 ghost use Rattle.hex.specs.Hex.{encode_lower};
@@ -17,7 +17,7 @@ use std::alloc::Global;
 /// for each trace, in the order in which they stand.
 ///
 /// `fields` are the query's selected fields, printed. Each span shows them beside what they are for it, one for one.
-/// The one error is want of memory.
+/// The one error is out of memory.
 #[tactic(auto, unfolding(crate::specs::Results::results_text))]
 pub fn write_results(alloc: Global, fields: &Texts, results: &Results) -> Result<Text, Memory>
     ensures { IfOk result (λ text. text ≡ results_text fields.now results.now) }
@@ -26,7 +26,7 @@ pub fn write_results(alloc: Global, fields: &Texts, results: &Results) -> Result
     Ok(Text::of(value.to_string(alloc)?))
 }
 
-/// All traces.
+/// The whole object, whose one member is the list of traces.
 #[tactic(auto, unfolding(crate::specs::Results::results_json))]
 fn traces(alloc: Global, fields: &[Text], results: &[TraceResult]) -> Result<Value, Memory>
     ensures { IfOk result (λ v. view v ≡ results_json fields.now results.now) }

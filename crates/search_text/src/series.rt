@@ -1,4 +1,4 @@
-//! Writing a metrics query's series.
+//! Writing a metrics query's series, series to JSON.
 
 ghost use Rattle.std.specs.Prelude.{◌≡◌, IfOk, decimal, string_bytes};
 ghost use Rattle.serde_json.specs.View.{view};
@@ -11,8 +11,8 @@ use span_types::{Memory, Text};
 use spanset_eval::{Count, Series, SeriesList};
 use std::alloc::Global;
 
-/// The text of a metrics query's series, as compact JSON with ascending keys: an object whose member `series` has an object
-/// for each series, in the order in which they stand. The one error is want of memory.
+/// The text of a metrics query's series, as compact JSON with ascending keys: an object whose member `series` has an
+/// object for each series, in the order in which they stand. The one error is out of memory.
 #[tactic(auto, unfolding(crate::specs::Series::series_text))]
 pub fn write_series(alloc: Global, series: &SeriesList) -> Result<Text, Memory>
     ensures { IfOk result (λ text. text ≡ series_text series.now) }
@@ -21,7 +21,7 @@ pub fn write_series(alloc: Global, series: &SeriesList) -> Result<Text, Memory>
     Ok(Text::of(value.to_string(alloc)?))
 }
 
-/// All series.
+/// The whole object, whose one member is the list of series.
 #[tactic(auto, unfolding(crate::specs::Series::all_series_json))]
 fn all_series(alloc: Global, series: &[Series]) -> Result<Json, Memory>
     ensures { IfOk result (λ v. view v ≡ all_series_json series.now) }
@@ -43,7 +43,7 @@ fn one_series(alloc: Global, series: &Series) -> Result<Json, Memory>
     Ok(json!(in alloc; {"by": by, "values": counts})?)
 }
 
-/// What is told of neighbouring buckets.
+/// What is shown of neighbouring buckets.
 fn counts(alloc: Global, list: &[Count]) -> Result<Json, Memory>
     ensures { IfOk result (λ v. view v ≡ list_json count_json list.now) }
 {
@@ -54,7 +54,7 @@ fn counts(alloc: Global, list: &[Count]) -> Result<Json, Memory>
     Ok(Json::from(values))
 }
 
-/// What is told of a bucket.
+/// What is shown of a bucket.
 #[tactic(auto, unfolding(crate::specs::Series::count_json))]
 fn count(alloc: Global, count: Count) -> Result<Json, Memory>
     ensures { IfOk result (λ v. view v ≡ count_json count) }

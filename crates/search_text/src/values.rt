@@ -1,4 +1,4 @@
-//! The JSON values of what a query finds.
+//! The JSON values of what a query finds: numbers, texts, and a span that is shown.
 
 ghost use Rattle.std.specs.Prelude.{◌≡◌, IfOk, OnOk, codes, decimal, string_bytes};
 ghost use Rattle.std.specs.Fmt.{signed_decimal};

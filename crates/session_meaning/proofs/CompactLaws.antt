@@ -129,7 +129,7 @@ joined_takes_a_number told before after blocks count is = (
 
 -- ---- without faults
 
--- A compaction in which no call failed, of a store that writes and has file numbers left, is done or memory was wanted, where what the
+-- A compaction in which no call failed, of a store that writes and has file numbers left, is done or memory ran out, where what the
 -- blocks hold is told.
 pub compaction_without_faults : (before : At) (round : Round) (after : At) → IsCompacted true before round after → (Rose before.faults after.faults → ⊥) → before.machine.read_only ≡ None
     → IsClosed before.machine → before.machine.state.next_file < 4294967294 → IsDoneOrStarved round × KeepsRoom 2 before.machine after.machine

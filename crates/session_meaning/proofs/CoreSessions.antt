@@ -123,7 +123,7 @@ module _ {D : Type 0} (g : Ghosts D) where
   }
 
   module _ (start : D) (least : ℕ) where
-    -- The core stands for the machine, with what was left since an earlier disk, and its disk tells its bytes.
+    -- The core stands for the machine, with what was left since an earlier disk, and its disk shows its bytes.
     abbrev TellsSince : Core D → Machine → Type 0
     TellsSince core m = StandsSince g start least core m × IsTrue (g.tells core.disk)
 

@@ -1,4 +1,4 @@
--- The blocks of a core whose disk tells its bytes have as many rows as their information says.
+-- The blocks of a core whose disk shows its bytes have as many rows as their information says.
 use Rattle.std.proofs.Common.{◌≡◌, ℕ, List, [], ◌∷◌, IsTrue, length, map, sym, ◌∙◌, ap}
 use Rattle.span_types.specs.declared.spans.Row.{Row}
 use Rattle.disk_model.specs.Images.{Image, bytes_of}

@@ -16,7 +16,7 @@ use Rattle.store_model.specs.Step.Step.{Sure, Succeeds, Lacks, Unread, Breaks, H
 use Rattle.session_meaning.specs.Upkeep.{IsClosed}
 use Rattle.session_meaning.proofs.RoundRoom.{KeepsRoom, room_itself}
 
--- The rows that go are moved, or memory was wanted.
+-- The rows that go are moved, or memory ran out.
 abbrev pub CutsOrLacks : (LiveRow → Bool) → Machine → reply → Machine → Type 0
 CutsOrLacks goes m r m' = IsCut goes m r m' ⊎ ((r ≡ Refused Memory) × (m' ≡ m))
 

@@ -56,7 +56,7 @@ flagged : (failed : Bool) (a b : ℕ) → IsCounted failed a b → RoseBy (numbe
 flagged true a b rose = raised_by a b rose
 flagged false a b same = rose_none a b same
 
--- behind what leaves the count, and before it
+-- after what leaves the count, and before it
 after_still : (n a b c : ℕ) → b ≡ a → RoseBy n b c → RoseBy n a c
 after_still n a b c same rose = subst (λ (x : ℕ). RoseBy n x c) same rose
 

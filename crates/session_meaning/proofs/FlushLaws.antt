@@ -98,7 +98,7 @@ flush_listed before after blocks count (round_of.job job at step ends) =
 found_none : (before : At) (round : Round) (after : At) → IsFlushed before round after → IsClosed before.machine → FoundNone round → ⊥
 found_none before round after is closed (file, at, told) = flush_caused before after (NotBlock file at) (subst (λ (r : Round). IsFlushed before r after) told is) closed
 
--- A flush in which no call failed, of a store that writes and has file numbers left, is done or memory was wanted.
+-- A flush in which no call failed, of a store that writes and has file numbers left, is done or memory ran out.
 pub flush_without_faults : (before : At) (round : Round) (after : At) → IsFlushed before round after → (Rose before.faults after.faults → ⊥) → before.machine.read_only ≡ None
     → IsClosed before.machine → before.machine.state.next_file < 4294967294 → IsDoneOrStarved round × KeepsRoom 2 before.machine after.machine
 flush_without_faults before round after is well writes closed files =

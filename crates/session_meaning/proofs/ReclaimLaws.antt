@@ -62,7 +62,7 @@ caused before after error.Memory c = tt
 same_refusal : (a b : Refusal) → Refused a ≡ Refused b → a ≡ b
 same_refusal a b e = cc
 
--- Refused, it has the cause that it is told.
+-- Refused, it has the cause that its reply names.
 pub reclaim_caused : (before after : At) (answer : Result ℕ ReclaimError) (why : Refusal) → Refused why ≡ reclaimed_reply answer → IsStep before Reclaim (reclaim_reply answer) after → HasWriteCause why before after
 reclaim_caused before after (Ok files) why is step = let bad : ⊥ = cc in absurd bad
 reclaim_caused before after (Err error) why is step =
@@ -89,7 +89,7 @@ reclaim_closes f g m m' r step closed =
     let none = closed (sym (ap (λ (n : Machine). n.read_only) done.1) ∙ writes) in
     record { flush = ap (λ (n : Machine). n.state.flush) done.1 ∙ none.flush; compaction = ap (λ (n : Machine). n.state.compaction) done.1 ∙ none.compaction }) step
 
--- In a store that writes, where no call failed, it is done or memory was wanted.
+-- In a store that writes, where no call failed, it is done or memory ran out.
 pub reclaim_room : (f g : ℕ) (m m' : Machine) (r : reply) → (Rose f g → ⊥) → m.read_only ≡ None → Step f g m Reclaim r m'
     → (((n : ℕ) × (r ≡ Count n)) ⊎ (r ≡ reply.Refused cause.Memory)) × KeepsRoom 0 m m'
 reclaim_room f g m m' r well writes (Sure told same) = absurd (sure_reply (λ x. ⊥) m.read_only r (λ n is. let bad : ⊥ = cc in bad) told)

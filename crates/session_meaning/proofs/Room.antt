@@ -97,7 +97,7 @@ unsure m spans moment writes pushes rows =
     ∙ test_no (nat_le 4294967295 (count_of m.history)) _ _ (not_above 4294967295 (count_of m.history) (omega (arith, pushes)))
     ∙ test_no (nat_lt 262144 (held_of m.state + length spans)) _ _ (not_below 262144 (held_of m.state + length spans) rows)
 
--- it is accepted, or memory is wanted
+-- it is accepted, or memory runs out
 data Taken (spans : List Span) (moment : ℕ) (m : Machine) (r : reply) (m' : Machine) : Type 0 where
   kept : r ≡ Count (count_of m.history) → m'.history ≡ pushed m.history spans → m'.read_only ≡ m.read_only
       → held_of m'.state ≡ held_of m.state + length spans → m'.state.next_file ≡ m.state.next_file → (HasNoJob m → HasNoJob m') → Taken spans moment m r m'
@@ -150,7 +150,7 @@ starved_plain : (reading : Reading) (answer : Result ℕ PushError) → push_rep
 starved_plain reading (Ok number) e = let bad : ⊥ = cc in absurd bad
 starved_plain reading (Err why) e = memory_plain reading why (same_cause (push_refusal why) cause.Memory e)
 
--- it is answered or memory was wanted, and leaves room for the others
+-- it is answered or memory ran out, and leaves room for the others
 abbrev GoesOn : Reply → List Item → Machine → Type 0
 GoesOn r items m = IsPlain r × HasRoomFor items m
 

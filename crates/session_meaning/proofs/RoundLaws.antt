@@ -124,7 +124,7 @@ IsJoining (OfBlocks job) = ⊤
 
 pub data Ending (job : Job) (begun_at : At) (round : Round) (after : At) : Type 0 where
   Lists : (size : ℕ) → IsSized job size → Happens begun_at.machine (commit_of job size) Fine after.machine → round ≡ Did (blocks_of job) size → Ending job begun_at round after
-  -- a write failed, and behind it the job stays open or is given up
+  -- a write failed, and after it the job stays open or is given up
   Breaks : (n : ℕ) → Rose begun_at.faults n → n ≤ after.faults → after.machine.read_only ≡ Some n → round ≡ Refused Fault → Ending job begun_at round after
   -- a read failed
   Misreads : IsJoining job → Rose begun_at.faults after.faults → Happens begun_at.machine (drop_of job) Fine after.machine → round ≡ Refused Fault → Ending job begun_at round after
@@ -383,7 +383,7 @@ idle_refused begins is f g m m' (begin.FilesSpent next) G writes closed none c =
 idle_refused begins is f g m m' begin.Fault G writes closed none c = no_work (work begins m.state) G none c.0
 idle_refused begins is f g m m' begin.Memory G writes closed none c = no_work (work begins m.state) G none c.0
 
--- A round that has nothing to do, in a store that writes, is told just that.
+-- A round that has nothing to do, in a store that writes, is answered just that.
 pub idle_nothing : (begins : event) → IsBegin begins → (before : At) (round : Round) (after : At) → IsRound begins before round after → before.machine.read_only ≡ None → IsClosed before.machine
     → work begins before.machine.state ≡ 0 → round ≡ Nothing
 idle_nothing begins is before round after (round_of.nothing step told) writes closed none = told

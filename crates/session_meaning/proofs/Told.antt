@@ -85,7 +85,7 @@ item_grows told (Ok request.Reclaim) before after r (inr bad) = absurd bad
 item_grows told (Err why) before after r (inl (is, same)) = still_grown before after (accepted_entry (Err why) r) refl (ap (λ (at : At). at.machine) same)
 item_grows told (Err why) before after r (inr bad) = absurd bad
 
--- The last history is the first one with the accepted batches behind it, in order.
+-- The last history is the first one with the accepted batches after it, in order.
 pub session_grows : (told : Bool) (items : List Item) (replies : List Reply) (first last : At) → Session told first items replies last
     → history_of last ≡ grown (history_of first) (accepted_entries items replies)
 session_grows told [] replies first last h = ap history_of h.1 ∙ sym (same_grown (history_of first))

@@ -61,7 +61,7 @@ abbrev pub IsSized : Job → ℕ → Type 0
 IsSized (OfRows job) size = (firsts : List Row) × IsFirstOf job.rows firsts × (size ≡ length firsts)
 IsSized (OfBlocks job) size = ⊤
 
--- It is given up where no call failed: for want of memory, or since a block that is to be joined is none.
+-- It is given up where no call failed: out of memory, or since a block that is to be joined is none.
 abbrev pub IsGivenUpFor : Job → Refusal → Type 0
 IsGivenUpFor job Memory = ⊤
 IsGivenUpFor (OfBlocks job) (NotBlock block at) = is_among block job.files ≡ true
@@ -134,7 +134,7 @@ pub record HasJoined (told : Bool) (m : Machine) (blocks count : ℕ) (m' : Mach
   pub counted : told ≡ true → count ≡ length rows
   pub leaves : m' ≡ with_state (after_commit_compact (chosen_job pin m.state) count rows (after_begin_compact pin m.state)) m
 
--- It was done, or there was nothing to do, or memory was wanted.
+-- It was done, or there was nothing to do, or memory ran out.
 abbrev pub IsDoneOrStarved : Round → Type 0
 IsDoneOrStarved (Refused Memory) = ⊤
 IsDoneOrStarved (Refused _) = ⊥

@@ -95,7 +95,7 @@ EndsUnopened WriteFault old taken =
 EndsUnopened Starved old taken = taken ≡ old.taken
 EndsUnopened _ old taken = ⊥
 
--- The clock gave the moment of the opening; or none, where memory was wanted for the words.
+-- The clock gave the moment of the opening; or none, where memory ran out for the words.
 abbrev pub GaveOpening : Ending → Option (List ℕ) → Option (List ℕ) → Type 0
 GaveOpening Starved old new = (new ≡ after_moment old) ⊎ (new ≡ old)
 GaveOpening _ old new = new ≡ after_moment old
@@ -126,7 +126,7 @@ pub record HasRun (text before : List ℕ) (o : Outcome) (old new : Edges) : Typ
 
 -- How much of its duties an ingest left: none, where the input was read to its end and all replies were written; where the
 -- source failed, or a run takes no more bytes, those from the first line on that wasn't pushed: nothing is done for the end
--- then. Where the sink failed or memory was wanted it may have stopped at any of them.
+-- then. Where the sink failed or memory ran out it may have stopped at any of them.
 abbrev pub IsLeft : Ending → List (List ℕ) → List Duty → Type 0
 IsLeft Answered later left = left ≡ []
 IsLeft Refused later left = left ≡ []
@@ -197,7 +197,7 @@ HasCause Spent old new = TakesBytes old.left new.left 0 taken_limit
 HasCause _ old new = ⊤
 
 -- The ending fits what `clap` by its own definition finds at fault in the words: where it finds nothing they aren't told
--- to be faulty, and where it finds something they are, unless memory was wanted.
+-- to be faulty, and where it finds something they are, unless memory ran out.
 abbrev pub FitsWords : Kinds → Ending → Type 0
 FitsWords [] ending = ending ≢ BadWords
 FitsWords (fault ∷ faults) ending = (ending ≡ BadWords) ⊎ (ending ≡ Starved)
@@ -214,7 +214,7 @@ pub record IsRunOf (told : Bool) (words : List (List ℕ)) (o : Outcome) (old ne
 
 -- ---- runs that come to their own end
 
--- The disk tells its bytes and they are those of a store, and no call of it failed.
+-- The disk shows its bytes and they are those of a store, and no call of it failed.
 abbrev pub HasItsStore : Edges → Edges → Type 0
 HasItsStore old new =
     (image : Image) × (old.held ≡ Some image) × IsSoundImage image × (Rose old.disk_faults new.disk_faults → ⊥)
@@ -225,7 +225,7 @@ ReadsWell old new =
     HasItsStore old new × (Rose old.sink_faults new.sink_faults → ⊥) × (Rose old.source_faults new.source_faults → ⊥)
     × (text : List ℕ) × (old.left ≡ Some text) × (length text < taken_limit)
 
--- The sink tells its bytes, and the source too where the command reads it.
+-- The sink shows its bytes, and the source too where the command reads it.
 abbrev pub TellsAll : Command → Edges → Type 0
 TellsAll session old = (text before : List ℕ) × (old.left ≡ Some text) × (old.taken ≡ Some before)
 TellsAll ingest old = (text before : List ℕ) × (old.left ≡ Some text) × (old.taken ≡ Some before)

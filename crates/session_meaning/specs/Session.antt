@@ -190,7 +190,7 @@ Ends Spent text later left before replies taken = IsWritten before replies taken
 Ends _ text later left before replies taken = ⊥
 
 -- How a run ends that answers one line alone, and what stands written: the reply; nothing or a first part of it, where
--- memory was wanted or the sink failed.
+-- memory ran out or the sink failed.
 abbrev pub EndsAlone : Ending → List ℕ → Reply → Option (List ℕ) → Type 0
 EndsAlone Answered before reply taken = IsWritten before (reply ∷ []) taken × (end_of (reply ∷ []) ≡ Answered)
 EndsAlone ending.Refused before reply taken = IsWritten before (reply ∷ []) taken × (end_of (reply ∷ []) ≡ ending.Refused)

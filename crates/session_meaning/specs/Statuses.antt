@@ -1,4 +1,4 @@
--- The exit statuses.
+-- Which exit status a run's end has.
 use Rattle.std.specs.Prelude.{ℕ}
 use Rattle.session_meaning.specs.declared.ending.Ending.{Ending}
 use Rattle.session_meaning.specs.declared.ending.Ending.TheVariants.{Answered, BadWords, NotOpened, NotStore, ReadFault, Refused, Spent, Starved, WriteFault}

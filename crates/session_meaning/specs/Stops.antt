@@ -44,7 +44,7 @@ abbrev pub Leaves : (Image → Type 0) → (Image → Type 0) → Outcome → Ty
 Leaves at_start since o =
     (image : Image) → since image → Reached KeepsStored at_start image ⊎ (IsTrue o.opened × StandsWithin o image)
 
--- A run over a disk that tells its bytes, which were a store's. Where the store was opened the run begins with what they store,
+-- A run over a disk that shows its bytes, which were a store's. Where the store was opened the run begins with what they store,
 -- and each image that a crash may leave of the disk that is handed back stands for that and all pushes that were accepted. Each
 -- image that a crash may have left at any moment of the run keeps what was stored at its start, or stands for that and the first
 -- few of these pushes.

@@ -1,4 +1,4 @@
-//! How a run may end.
+//! How a run may end, and the exit status of each end. It is the one thing of this crate that the program runs.
 
 ghost use Rattle.std.specs.Prelude.{◌≡◌};
 ghost use Rattle.session_meaning.specs.Statuses.{status_of};
@@ -23,7 +23,7 @@ pub enum Ending {
         /// The byte at which it is.
         at: u64,
     },
-    /// Memory was wanted for more than one line's answer, as for opening the store; or all was read and written, and
+    /// Memory ran out for more than one line's answer, as for opening the store; or all was read and written, and
     /// the refusals among the replies, of which there is one, are all for memory.
     Starved,
     /// The input was read to its end and all replies were written, and one of them is a refusal for another cause than

@@ -1,4 +1,9 @@
-//! What follows from the definitions of a session and of a run.
+//! Theorems about sessions, ingests and runs, from the definitions in `specs/`: what replies tell, why something is
+//! refused, what is stored, and when a run comes to its own end.
+//!
+//! Each function has an empty body: its contract is the statement, and its proof stands in `proofs/laws/`. `headline`
+//! calls `pushes_have_their_causes` to have its contract, and nothing calls the others; proofs of `headline` and
+//! `trace_shell` cite the lemmas of some. The parameters name a core, before and after.
 
 ghost use Rattle.std.specs.Prelude.{Bool, IsTrue, true, ◌≡◌, ◌≢◌, ◌⊎◌, ◌<◌, ◌≤◌, ◌+◌, ◌++◌, List, [], ◌∷◌, Option, Some, None, Ok, false, length, take, ℕ};
 ghost use Rattle.std.specs.List.{Contains, list_any};
@@ -46,8 +51,8 @@ ghost use Rattle.session_meaning.specs.Upkeep.{HasEmptied, HasFailedSince, IsClo
 use disk_model::Device;
 use store_core::Core;
 
-/// What is answered by calls of a store is answered as the history says, but that what queries tell isn't said where the store
-/// lists blocks: the machine of the store, with its logs and pins, tells no more than the pushes do.
+/// What is answered by calls of a store is answered as the history says, but that what queries tell isn't said where
+/// the store lists blocks: the machine of the store, with its logs and pins, tells no more than the pushes do.
 pub fn calls_answer_as_the_history_says()
     ensures item { (item : Item) (before after : At) (reply : Reply) → Agrees before.machine
         → IsAnsweredByCalls item before reply after → IsAnsweredOrRefused false item before reply after }
@@ -58,14 +63,14 @@ pub fn calls_answer_as_the_history_says()
 
 /// What is answered over the port of a core is a session.
 pub fn a_core_answers_as_the_history_says<D: Device>(old: &Core<D>, new: &Core<D>)
-    // From a machine on that its memory shows, whatever its disk holds, to one that it shows then. What queries tell isn't said
-    // where the store lists blocks.
+    // From a machine on that its memory shows, whatever its disk holds, to one that it shows then. What queries tell
+    // isn't said where the store lists blocks.
     ensures shown { (items : List Item) (replies : List Reply)
         → AreAnsweredOver (port_of D.Device.own) old.now items replies new.now → (m : Machine)
         → CoreShows D.Device.own old.now m → (later : Machine) × CoreShows D.Device.own new.now later
         × Session false (at_core D.Device.own old.now m) items replies (at_core D.Device.own new.now later) }
-    // From a machine on for which it stands, where its disk tells its bytes: queries tell of all that was pushed, wherever it lies.
-    // What was left since an earlier disk goes on standing for the history at some length.
+    // From a machine on for which it stands, where its disk shows its bytes: queries tell of all that was pushed,
+    // wherever it lies. What was left since an earlier disk goes on standing for the history at some length.
     ensures since { (items : List Item) (replies : List Reply)
         → AreAnsweredOver (port_of D.Device.own) old.now items replies new.now → (m : Machine) → (start : D) (least : ℕ)
         → StandsSince D.Device.own start least old.now m → IsTrue (D.tells old.now.disk)
@@ -73,8 +78,8 @@ pub fn a_core_answers_as_the_history_says<D: Device>(old: &Core<D>, new: &Core<D
         × Session true (at_core D.Device.own old.now m) items replies (at_core D.Device.own new.now later) }
 {}
 
-/// What is asked of a core by the duties of an ingest is an ingest: from a machine on that its memory shows, or for which it stands, as
-/// of a session.
+/// What is asked of a core by the duties of an ingest is an ingest: from a machine on that its memory shows, or for
+/// which it stands, as of a session.
 pub fn a_core_ingests_as_the_history_says<D: Device>(old: &Core<D>, new: &Core<D>)
     ensures shown { (todo left : List Duty) (told to_tell : Option (List ℕ)) (items : List Item) (replies : List Reply)
         → IngestsOver D.Device.own todo told old.now items replies new.now left to_tell → (m : Machine)
@@ -93,7 +98,8 @@ pub fn sessions_keep_the_store()
         → Session told first items replies last → Agrees first.machine → Agrees last.machine }
     ensures closed { (told : Bool) (items : List Item) (replies : List Reply) (first last : At)
         → Session told first items replies last → IsClosed first.machine → IsClosed last.machine }
-    // A store that wrote at first writes no more only where a call failed since, and then it tells the disk's count after that.
+    // A store that wrote at first writes no more only where a call failed since, and then it tells the disk's count
+    // after that.
     ensures read_only { (told : Bool) (items : List Item) (replies : List Reply) (first last : At)
         → Session told first items replies last → first.machine.read_only ≡ None → HasFailedSince first.faults last }
 {}
@@ -115,11 +121,11 @@ pub fn each_disk_fault_is_counted()
 
 /// What the replies of a session tell of its pushes.
 pub fn replies_tell_the_history()
-    // The last history is the first one, and behind it the entries that were accepted, in order.
+    // The last history is the first one, and after it the entries that were accepted, in order.
     ensures appended { (told : Bool) (items : List Item) (replies : List Reply) (first last : At)
         → Session told first items replies last
         → history_of last ≡ grown (history_of first) (accepted_entries items replies) }
-    // What an accepted push is told, its number, is below the count of pushes that any later query knows of.
+    // The number in an accepted push's reply is below the count of pushes that any later query knows of.
     ensures known_later { (told : Bool) (items : List Item) (earlier later : List Reply) (first last : At)
         → (number kept rejected skipped : ℕ)
         → Session told first items (earlier ++ Pushed number kept rejected skipped ∷ later) last
@@ -128,12 +134,12 @@ pub fn replies_tell_the_history()
 
 /// Which pushes are refused, and which are accepted.
 pub fn pushes_have_their_causes()
-    // Refused, it has the cause that it is told, and the history stays.
+    // Refused, it has the cause that its reply names, and the history stays.
     ensures refused { (told : Bool) (reading : Reading) (moment : ℕ) (before after : At) (why : Refusal)
         → IsAnswered told (Ok (Push reading moment)) before (Refused why) after
         → HasPushCause why (length reading.batch.spans) before after
         × (history_of after ≡ history_of before) }
-    // Accepted, it had room in a store that writes, and is told how many came before it.
+    // Accepted, it had room in a store that writes, and the reply says how many came before it.
     ensures accepted { (told : Bool) (reading : Reading) (moment : ℕ) (before after : At) (number kept rejected skipped : ℕ)
         → IsAnswered told (Ok (Push reading moment)) before (Pushed number kept rejected skipped) after
         → HasRoomForPush (length reading.batch.spans) before.machine × (number ≡ count_of (history_of before)) }
@@ -142,7 +148,7 @@ pub fn pushes_have_their_causes()
 /// What is stored, by the entries that were accepted. A run that is stopped is one over a disk of which from some call
 /// on every call fails: what it hands back then has each push that was accepted before the stop.
 pub fn accepted_pushes_are_stored()
-    // An image of the disk that is handed back: what was stored at first and behind it all accepted entries, in order.
+    // An image of the disk that is handed back: what was stored at first and after it all accepted entries, in order.
     ensures returned { (told : Bool) (o : Outcome) (image : Image)
         → Session told o.first o.items o.replies o.last
         → StandsForLast o image
@@ -167,8 +173,8 @@ pub fn comes_to_an_end()
     // It answers all that it was asked.
     ensures ends { (told : Bool) (words : List (List ℕ)) (c : Command) (o : Outcome) (old new : Edges) → Spells words c
         → IsRunOf told words o old new → GoesWell c old new → ComesToItsEnd o.ending }
-    // And where nothing was refused in reading, the store had room, and what its blocks hold is told, nothing is refused but for
-    // memory.
+    // And where nothing was refused in reading, the store had room, and what its blocks hold is told, nothing is
+    // refused but for memory.
     ensures well { (words : List (List ℕ)) (c : Command) (o : Outcome) (old new : Edges) → Spells words c
         → IsRunOf true words o old new → GoesWell c old new
         → (before : List ℕ) → old.taken ≡ Some before → list_any is_refused o.items ≡ false
@@ -182,8 +188,8 @@ pub fn an_ingest_is_a_session()
         → Ingests sure todo told first items replies last left to_tell → Session sure first items replies last }
 {}
 
-/// An ingest that did all has cut and flushed at its end, has compacted until a compaction joined no blocks, and then emptied loose
-/// files.
+/// An ingest that did all has cut and flushed at its end, has compacted until a compaction joined no blocks, and then
+/// emptied loose files.
 pub fn an_ingest_finishes()
     ensures { (sure : Bool) (source : List (List ℕ)) (told to_tell : Option (List ℕ)) (items : List Item)
         → (replies : List Reply) (first last : At)
@@ -195,19 +201,20 @@ pub fn flushes_have_their_causes()
     // The calls of a round make of the store what a flush does.
     ensures by_calls { (calls : List Call) (round : Round) (before after : At) → IsFlushRound calls round
         → CallsLead before calls after → IsFlushed before round after }
-    // Refused, it has the cause that it is told.
+    // Refused, it has the cause that its reply names.
     ensures refused { (before after : At) (why : Cause) → IsClosed before.machine
         → IsFlushed before (IsRefused why) after → HasFlushCause why before after }
-    // A flush of an empty head, in a store that writes, is told just that.
+    // A flush of an empty head, in a store that writes, is answered just that.
     ensures empty { (before after : At) (round : Round) → before.machine.read_only ≡ None → IsClosed before.machine
         → length before.machine.state.head ≡ 0 → IsFlushed before round after → round ≡ Nothing }
-    // And where it is told that, the head was empty, and the store is as it was.
+    // And where that is the answer, the head was empty, and the store is as it was.
     ensures nothing { (before after : At) → IsFlushed before Nothing after
         → (length before.machine.state.head ≡ 0) × IsStill before after }
-    // A block that is listed holds the first occurrences of the rows that waited first, and it is told how many these are.
+    // A block that is listed holds the first occurrences of the rows that waited first, and the reply says how many
+    // these are.
     ensures listed { (before after : At) (blocks rows : ℕ) → IsFlushed before (Did blocks rows) after
         → HasListed before.machine blocks rows after.machine }
-    // Without faults, in a store that writes and has file numbers left, it is done or memory was wanted.
+    // Without faults, in a store that writes and has file numbers left, it is done or memory ran out.
     ensures well { (before after : At) (round : Round) → (Rose before.faults after.faults → ⊥)
         → before.machine.read_only ≡ None → IsClosed before.machine → before.machine.state.next_file < 4294967294
         → IsFlushed before round after → IsDoneOrStarved round }
@@ -221,22 +228,22 @@ pub fn compactions_have_their_causes()
     // The calls of a round make of the store what a compaction does.
     ensures by_calls { (calls : List Call) (round : Round) (before after : At) → IsCompactRound calls round
         → CallsLead before calls after → IsRound BeginCompact before round after }
-    // Refused, it has the cause that it is told.
+    // Refused, it has the cause that its reply names.
     ensures refused { (told : Bool) (before after : At) (why : Cause) → IsClosed before.machine
         → IsCompacted told before (IsRefused why) after → HasCompactCause told why before after }
-    // Where no two blocks of one level below 63 fit together, in a store that writes, it is told just that.
+    // Where no two blocks of one level below 63 fit together, in a store that writes, that is just the answer.
     ensures none_fit { (told : Bool) (before after : At) (round : Round) → before.machine.read_only ≡ None
         → IsClosed before.machine → length (choice before.machine.state.blocks) ≡ 0
         → IsCompacted told before round after → round ≡ Nothing }
-    // And where it is told that, no two fitted, and the store is as it was.
+    // And where that is the answer, no two fitted, and the store is as it was.
     ensures nothing { (told : Bool) (before after : At) → IsCompacted told before Nothing after
         → (length (choice before.machine.state.blocks) ≡ 0) × IsStill before after }
-    // It joins the blocks that the store chooses, and is told how many these are. The new block stands in their place, and
-    // where what the blocks hold is told it is told how many first occurrences their rows have.
+    // It joins the blocks that the store chooses, and the reply says how many these are. The new block stands in their
+    // place, and where what the blocks hold is known the reply says how many first occurrences their rows have.
     ensures joined { (told : Bool) (before after : At) (blocks rows : ℕ)
         → IsCompacted told before (Did blocks rows) after → HasJoined told before.machine blocks rows after.machine }
-    // Without faults, in a store that writes, has file numbers left and tells what its blocks hold, it is done or memory
-    // was wanted.
+    // Without faults, in a store that writes, has file numbers left and tells what its blocks hold, it is done or
+    // memory was wanted.
     ensures well { (before after : At) (round : Round) → (Rose before.faults after.faults → ⊥)
         → before.machine.read_only ≡ None → IsClosed before.machine → before.machine.state.next_file < 4294967294
         → IsCompacted true before round after → IsDoneOrStarved round }
@@ -258,10 +265,10 @@ pub fn compactions_come_to_an_end()
 
 /// What the emptying of loose files makes of the store.
 pub fn reclaims_have_their_causes()
-    // Refused, it has the cause that it is told.
+    // Refused, it has the cause that its reply names.
     ensures refused { (told : Bool) (before after : At) (why : Refusal)
         → IsAnswered told (Ok Reclaim) before (Refused why) after → HasWriteCause why before after }
-    // Else the store writes, and it is told how many loose files no pin named: these are loose no more.
+    // Else the store writes, and the reply says how many loose files no pin named: these are loose no more.
     ensures emptied { (told : Bool) (before after : At) (files : ℕ)
         → IsAnswered told (Ok Reclaim) before (Reclaimed files) after → HasEmptied before.machine files after.machine }
 {}

@@ -2,7 +2,8 @@
 //! (`specs/Session.antt`); what a run of the program does (`specs/Runs.antt`); and what is stored whenever it is
 //! stopped (`specs/Stops.antt`).
 //!
-//! The crate has definitions in `specs/`, and what they have of code. It reads, writes and keeps nothing.
+//! The crate has these definitions, theorems about them (`laws`), and one type that the program uses, how a run ends
+//! (`ending`). It reads, writes and keeps nothing.
 #![tactic(auto)]
 
 mod ending;

@@ -1,5 +1,5 @@
-//! Tests of lines and replies: the words of the command line, each request and reply with its exact bytes, and whole runs.
-//! They show what no clause says.
+//! Tests of lines and replies: the words of the command line, each request and reply with its exact bytes, and whole
+//! runs. They show what no clause says.
 #![tactic(auto)]
 
 #[cfg(test)]

@@ -64,7 +64,8 @@ ok search as_of=1 traces=1 {"traces":[{"durationNanos":"1","rootName":null,"root
 "#,
 );
 
-/// Averages are exact, a spanset tells how many spans it has where fewer are shown, ranges pick traces, and a limit of 0 is refused.
+/// Averages are exact, a spanset tells how many spans it has where fewer are shown, ranges pick traces, and a limit of
+/// 0 is refused.
 const AVERAGES: (&str, &str) = (
     r#"push {"resourceSpans":[{"scopeSpans":[{"spans":[{"traceId":"000000000000000000000000000000a1","spanId":"00000000000000b1","parentSpanId":"","name":"p","startTimeUnixNano":"1","endTimeUnixNano":"2","attributes":[{"key":"v","value":{"intValue":"1"}}]},{"traceId":"000000000000000000000000000000a1","spanId":"00000000000000b2","parentSpanId":"","name":"q","startTimeUnixNano":"1","endTimeUnixNano":"2","attributes":[{"key":"v","value":{"intValue":"2"}}]}]}]}]}
 search { } | avg(.v) = 1
@@ -132,8 +133,8 @@ refused bad-request at=6
 "#,
 );
 
-/// Metrics of two spans of a trace that start at 1 and 5, in whole buckets and in one that the end cuts short, for each name, and where
-/// none starts in the range.
+/// Metrics of two spans of a trace that start at 1 and 5, in whole buckets and in one that the end cuts short, for
+/// each name, and where none starts in the range.
 const METRICS: (&str, &str) = (
     r#"metrics start=0 end=10 step=4 { } | count_over_time()
 push {"resourceSpans":[{"scopeSpans":[{"spans":[{"traceId":"000000000000000000000000000000a1","spanId":"00000000000000b1","parentSpanId":"","name":"x","startTimeUnixNano":"1","endTimeUnixNano":"2"},{"traceId":"000000000000000000000000000000a1","spanId":"00000000000000b2","parentSpanId":"","name":"y","startTimeUnixNano":"5","endTimeUnixNano":"6"}]}]}]}
@@ -151,8 +152,8 @@ ok metrics as_of=1 series=1 {"series":[{"by":[{"stringValue":"y"}],"values":[{"i
 "#,
 );
 
-/// Metrics of four spans of one spanset that were pushed twice, with a flush between: the last one starts at the end of the first range, and
-/// each has a value of another kind.
+/// Metrics of four spans of one spanset that were pushed twice, with a flush between: the last one starts at the end
+/// of the first range, and each has a value of another kind.
 const METRICS_OF_REPEATS: (&str, &str) = (
     r#"push {"resourceSpans":[{"scopeSpans":[{"spans":[{"traceId":"000000000000000000000000000000a1","spanId":"00000000000000b1","parentSpanId":"","name":"x","startTimeUnixNano":"4","endTimeUnixNano":"5"},{"traceId":"000000000000000000000000000000a1","spanId":"00000000000000b2","parentSpanId":"","name":"x","startTimeUnixNano":"4","endTimeUnixNano":"5","attributes":[{"key":"v","value":{"boolValue":true}}]},{"traceId":"000000000000000000000000000000a1","spanId":"00000000000000b3","parentSpanId":"","name":"x","startTimeUnixNano":"7","endTimeUnixNano":"8","attributes":[{"key":"v","value":{"intValue":"1"}}]},{"traceId":"000000000000000000000000000000a1","spanId":"00000000000000b4","parentSpanId":"","name":"x","startTimeUnixNano":"8","endTimeUnixNano":"9","attributes":[{"key":"v","value":{"stringValue":"a"}}]}]}]}]}
 cutall
@@ -196,7 +197,8 @@ refused bad-query unexpected at=28
 "#,
 );
 
-/// Each operator over a chain `a`, `b`, `c` with a sibling `s` of `b`, a ring of `p` and `q` with a tail `t`, the orphans `o` and `n` of one parent, and `l` alone.
+/// Each operator over a chain `a`, `b`, `c` with a sibling `s` of `b`, a ring of `p` and `q` with a tail `t`, the
+/// orphans `o` and `n` of one parent, and `l` alone.
 const OPERATORS: (&str, &str) = (
     r#"push {"resourceSpans":[{"scopeSpans":[{"spans":[{"traceId":"000000000000000000000000000000a1","spanId":"0000000000000001","parentSpanId":"","name":"a","startTimeUnixNano":"1","endTimeUnixNano":"2"},{"traceId":"000000000000000000000000000000a1","spanId":"0000000000000002","parentSpanId":"0000000000000001","name":"b","startTimeUnixNano":"1","endTimeUnixNano":"2"},{"traceId":"000000000000000000000000000000a1","spanId":"0000000000000003","parentSpanId":"0000000000000002","name":"c","startTimeUnixNano":"1","endTimeUnixNano":"2"},{"traceId":"000000000000000000000000000000a1","spanId":"0000000000000004","parentSpanId":"0000000000000001","name":"s","startTimeUnixNano":"1","endTimeUnixNano":"2"},{"traceId":"000000000000000000000000000000a1","spanId":"0000000000000005","parentSpanId":"0000000000000006","name":"p","startTimeUnixNano":"1","endTimeUnixNano":"2"},{"traceId":"000000000000000000000000000000a1","spanId":"0000000000000006","parentSpanId":"0000000000000005","name":"q","startTimeUnixNano":"1","endTimeUnixNano":"2"},{"traceId":"000000000000000000000000000000a1","spanId":"0000000000000007","parentSpanId":"0000000000000005","name":"t","startTimeUnixNano":"1","endTimeUnixNano":"2"},{"traceId":"000000000000000000000000000000a1","spanId":"0000000000000008","parentSpanId":"0000000000000099","name":"o","startTimeUnixNano":"1","endTimeUnixNano":"2"},{"traceId":"000000000000000000000000000000a1","spanId":"0000000000000009","parentSpanId":"0000000000000099","name":"n","startTimeUnixNano":"1","endTimeUnixNano":"2"},{"traceId":"000000000000000000000000000000a1","spanId":"000000000000000a","parentSpanId":"","name":"l","startTimeUnixNano":"1","endTimeUnixNano":"2"}]}]}]}
 search spss=20 { name =~ "b|p|o|l" } > { }

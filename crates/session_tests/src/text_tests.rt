@@ -31,7 +31,8 @@ fn add_search(alloc: Global, told: &mut String, search: &Search) -> Result<(), M
     Ok(())
 }
 
-/// Adds what a metrics query asks: its rate or count, its times, how many patterns it has, and the query that is run, as it is printed.
+/// Adds what a metrics query asks: its rate or count, its times, how many patterns it has, and the query that is run,
+/// as it is printed.
 fn add_metrics(alloc: Global, told: &mut String, asked: &Metrics) -> Result<(), Memory> {
     let tells = if asked.rate { "rate" } else { "count" };
     let patterns = asked.checked.patterns.len();

@@ -53,7 +53,7 @@ parts-split text (Some x) h =
     let parts = split_parts 32 text (Some x) h (omega arith) in
     (sym (ap first_part parts.0 ∙ first_before x.0.now x.1.now parts.1), sym (ap other_parts parts.0 ∙ others_after x.0.now x.1.now parts.1))
 
--- ---- behind a name
+-- ---- after a name
 
 behind_there : (name rest : List ℕ) → behind name (name ++ rest) ≡ Some rest
 behind_there [] rest = refl
@@ -68,7 +68,7 @@ behind_none (c ∷ cs) (d ∷ ds) none = go (c == d) refl (λ is. behind_none cs
     go true e more = rw e (more (eqb-true c d e))
     go false e more = rw e refl
 
--- what `strip_prefix` answers is what stands behind the name
+-- what `strip_prefix` answers is what stands after the name
 pub behind-stripped : (name text : List ℕ) (r : Option (Bor (List ℕ))) → MatchOption r (FindsTextPrefix name text None) (λ x. StripsPrefix (FindsTextPrefix name) text x.now)
     → option_map (λ s. s.now) r ≡ behind name text
 behind-stripped name text None none = sym (behind_none name text none)

@@ -53,7 +53,7 @@ abbrev pub measured_query : ℕ → ℕ → ℕ → ℕ → Left → Result Metr
 measured_query len start end step None = Err len
 measured_query len start end step (Some query) = Ok (record { start = start; end = end; step = step; query = query })
 
--- Behind `metrics` stand the start, the end and the step, and then the query. Of a line of this length this much is left behind
+-- After `metrics` stand the start, the end and the step, and then the query. Of a line of this length this much is left after
 -- `metrics`. A refusal is its place.
 unfoldable pub metrics_parts : ℕ → Left → Result MetricsLine ℕ
 metrics_parts len left = do

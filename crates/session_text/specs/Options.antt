@@ -89,8 +89,8 @@ with_query len limit spans start end (Some query) = Ok (record {
   query = query;
 })
 
--- Behind `search` stand the options, each at most once and in this order, and then the query: what is left where no
--- option stands that may. Of a line of this length this much is left behind `search`. A refusal is its place.
+-- After `search` stand the options, each at most once and in this order, and then the query: what is left where no
+-- option stands that may. Of a line of this length this much is left after `search`. A refusal is its place.
 unfoldable pub search_parts : ℕ → Left → Result SearchLine ℕ
 search_parts len left = do
   limit ← option_first count_of (codes "limit=") len left

@@ -35,7 +35,7 @@ abbrev pub push_with : ℕ → ℕ → Option (List ℕ) → Result Request Refu
 push_with moment len None = Err (BadRequest len)
 push_with moment len (Some json) = pushed moment (reading_of json)
 
--- The id, and no part behind it. `start` is its first byte.
+-- The id, and no part after it. `start` is its first byte.
 abbrev pub with_id : ℕ → List ℕ → Option TraceId → Option (List ℕ) → Result Request Refusal
 with_id start part None more = Err (BadRequest start)
 with_id start part (Some id) None = Ok (Trace id)
@@ -46,7 +46,7 @@ abbrev pub trace_with : ℕ → Option (List ℕ) → Result Request Refusal
 trace_with len None = Err (BadRequest len)
 trace_with len (Some rest) = with_id 6 (first_part rest) (trace_id_of (first_part rest)) (other_parts rest)
 
--- A word that stands alone asks this. `word` is the word, and no part may stand behind it.
+-- A word that stands alone asks this. `word` is the word, and no part may stand after it.
 abbrev pub alone : List ℕ → Option (List ℕ) → Request → Result Request Refusal
 alone word None request = Ok request
 alone word (Some more) request = Err (BadRequest (length word + 1))
@@ -113,7 +113,7 @@ AsksMetrics line refused (Ok (Metrics m)) = MeasuresLine line refused (Ok m)
 AsksMetrics line refused (Ok other) = ⊥
 AsksMetrics line refused (Err e) = MeasuresLine line refused (Err e)
 
--- what may be answered to a line of which this is known; want of memory may take the place of any answer
+-- what may be answered to a line of which this is known; out of memory may take the place of any answer
 abbrev pub Answers : Line → List (List ℕ) → Result Request Refusal → Type 0
 Answers (searched line) refused result = AsksSearch line refused result
 Answers (measured line) refused result = AsksMetrics line refused result

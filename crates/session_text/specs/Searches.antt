@@ -40,7 +40,7 @@ of_check type.Memory = Memory
 
 -- ---- queries that are refused
 
--- The text isn't in a language, and this is a right refusal of it: `IsRight` says which ones are. Want of memory is always a cause.
+-- The text isn't in a language, and this is a right refusal of it: `IsRight` says which ones are. Out of memory is always a cause.
 pub record IsNoQuery (IsRight : List ℕ → ParseError → Type 0) (text : List ℕ) (e : Refusal) : Type 0 where
   pub why : ParseError
   pub is : e ≡ of_parse why
@@ -92,7 +92,7 @@ pub record IsMetricsQuery (text : List ℕ) (m : MetricsTree) : Type 0 where
   pub short : length text ≤ MOST_QUERY_BYTES
   pub reads : ReadsMetrics DEPTH text m
 
--- This query is run for the text of a metrics query, which asks for a rate or not: its own query, with the stage `by` behind it if
+-- This query is run for the text of a metrics query, which asks for a rate or not: its own query, with the stage `by` after it if
 -- its spans are split.
 pub record IsRun (text : List ℕ) (rate : Bool) (q : QueryTree) : Type 0 where
   pub asked : MetricsTree

@@ -1,4 +1,5 @@
-//! What a metrics query's line asks, from its parts.
+//! What a metrics query's line asks, from its parts: the query is parsed, gets a stage `by` if it splits, is checked,
+//! and its patterns are made.
 
 ghost use Rattle.std.specs.Prelude.{◌≡◌, ◌<◌, ◌≤◌, ℕ, List, IfOk, IfErr};
 ghost use Rattle.traceql_metrics.specs.Series.{bucket_count, most_buckets};
@@ -20,9 +21,9 @@ use traceql_types::PatternMaker;
 /// The query that is run for a metrics query.
 #[derive(Drop)]
 struct RunQuery {
-    /// The query, with the stage `by` behind it if its spans are split.
+    /// The query, with the stage `by` after it if its spans are split.
     query: Query,
-    /// Whether a rate for a second is told.
+    /// Whether a rate for a second is shown.
     rate: bool,
 }
 

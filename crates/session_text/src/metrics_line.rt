@@ -12,7 +12,7 @@ use crate::options::{behind, digits, split_text, time_first};
 pub(crate) struct MetricsLine<'a> {
     /// The first moment that counts.
     pub(crate) start: u64,
-    /// The moment behind the last one that counts.
+    /// The moment after the last one that counts.
     pub(crate) end: u64,
     /// How long a bucket is.
     pub(crate) step: u64,
@@ -20,8 +20,8 @@ pub(crate) struct MetricsLine<'a> {
     pub(crate) query: &'a str,
 }
 
-/// What a metrics query's line says, of which this is left behind `metrics`. An error is the place of the first part that can't
-/// stand there, and the line's length where a part is missing.
+/// What a metrics query's line says, of which this is left after `metrics`. An error is the place of the first part
+/// that can't stand there, and the line's length where a part is missing.
 #[tactic(auto, unfolding(crate::specs::MetricsLines::metrics_parts))]
 pub(crate) fn metrics_parts<'a>(length: u64, left: Option<&'a str>) -> Result<MetricsLine<'a>, u64>
     ensures line { metrics_parsed result ≡ metrics_parts length (left_parsed left.entry) }

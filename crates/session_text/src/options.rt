@@ -14,18 +14,18 @@ use moment_range::Range;
 /// How many traces, and how many spans of a spanset, an option may ask for at most.
 const MOST: u64 = 1000;
 
-/// How many traces are told where no option says it.
+/// How many traces are shown if no option says it.
 const LIMIT: u32 = 20;
 
-/// How many spans of a spanset are told where no option says it.
+/// How many spans of a spanset are shown if no option says it.
 const SPANS_PER_SET: u32 = 3;
 
 /// What a search's line says.
 #[derive(Drop)]
 pub(crate) struct SearchLine<'a> {
-    /// How many traces are told at most.
+    /// How many traces are shown at most.
     pub(crate) limit: u32,
-    /// How many spans of a spanset are told at most.
+    /// How many spans of a spanset are shown at most.
     pub(crate) spans_per_set: u32,
     /// A trace counts of which a span starts in this range.
     pub(crate) range: Range,
@@ -33,7 +33,7 @@ pub(crate) struct SearchLine<'a> {
     pub(crate) query: &'a str,
 }
 
-/// What a search's line says, of which this is left behind `search`. An error is the place of the first part that can't
+/// What a search's line says, of which this is left after `search`. An error is the place of the first part that can't
 /// stand there, and the line's length where the query is missing.
 #[tactic(auto, unfolding(crate::specs::Options::search_parts))]
 pub(crate) fn search_parts<'a>(length: u64, left: Option<&'a str>) -> Result<SearchLine<'a>, u64>
@@ -99,7 +99,7 @@ pub(crate) fn time_first<'a>(
     }
 }
 
-/// The first part, and what follows the space behind it.
+/// The first part, and what follows the space after it.
 pub(crate) fn split_text(text: &str) -> (&str, Option<&str>)
     ensures first { result.0.now ≡ first_part text.now }
     ensures others { left_parsed result.1 ≡ other_parts text.now }

@@ -1,4 +1,4 @@
-//! What a line asks.
+//! Reading a line: bytes to what it asks, or why it is refused. The first word decides which part is read how.
 
 ghost use Rattle.std.specs.Prelude.{◌≡◌, ◌⊎◌, ℕ, List, IfOk, Err, Ok, Some, None, option_map, length};
 ghost use Rattle.traceql_types.specs.Makers.{RefusesOnly};
@@ -33,10 +33,10 @@ const PUSH_WORD: u64 = 5;
 /// - `search [limit=n] [spss=n] [start=T] [end=T] QUERY`: a search. The options stand in this order, each n is a number
 ///   from 1 to 1,000 and each T a count of nanoseconds or a timestamp. The QUERY is the rest of the line. The maker
 ///   makes its patterns.
-/// - `metrics start=T end=T step=n QUERY`: a metrics query. The options all stand there in this order, the end is above the
-///   start, n is a number from 1 on, and there are at most 1,000 buckets. The QUERY is the rest of the line.
+/// - `metrics start=T end=T step=n QUERY`: a metrics query. The options all stand there in this order, the end is
+///   above the start, n is a number from 1 on, and there are at most 1,000 buckets. The QUERY is the rest of the line.
 /// - `cut`, `cutall`, `flush`, `compact`, `reclaim`: a cut at the moment, a cut of all, a flush, a compaction, and the
-///   emptying of loose files. Nothing stands behind the word.
+///   emptying of loose files. Nothing stands after the word.
 ///
 /// One space stands between the parts. A line that is none of these is refused at the first byte of the first part that
 /// can't stand there, and at its length where a part is missing. A line that isn't UTF-8 is refused at its first byte,
@@ -69,9 +69,9 @@ pub fn read_request<P: PatternMaker>(
     }
 }
 
-/// What a line of a source asks whose lines are pushed, read at this moment, in nanoseconds: what the request `push`, one
-/// space and the line asks, or why that is refused. A line of more than 16,777,216 bytes, these alone counted, is too long.
-/// `Memory` comes wherever memory is wanted and not given.
+/// What a line of a source asks whose lines are pushed, read at this moment, in nanoseconds: what the request `push`,
+/// one space and the line asks, or why that is refused. A line of more than 16,777,216 bytes, these alone counted, is
+/// too long. `Memory` comes wherever memory is wanted and not given.
 pub fn read_push(alloc: Global, line: &[u8], moment: u64) -> Result<Request, Refusal>
     ensures asked { AsksPush moment line.now result }
     ensures few { IfOk result (λ request. HasFewSpans request) }
@@ -84,7 +84,7 @@ pub fn read_push(alloc: Global, line: &[u8], moment: u64) -> Result<Request, Ref
     push_with(alloc, moment, PUSH_WORD + line.len() as u64, Some(line))
 }
 
-/// The first part, and what follows the space behind it.
+/// The first part, and what follows the space after it.
 fn split(line: &[u8]) -> (&[u8], Option<&[u8]>)
     ensures first { result.0.now ≡ first_part line.now }
     ensures others { option_map (λ s. s.now) result.1 ≡ other_parts line.now }

@@ -1,4 +1,4 @@
-//! Why a line is refused.
+//! Why a line is refused: what `reading` and `client_run` find, and `writing` names in a reply.
 
 use span_types::Text;
 
@@ -72,7 +72,7 @@ pub enum Refusal {
         /// The byte at which it is.
         at: u64,
     },
-    /// Memory was wanted.
+    /// Memory ran out.
     Memory,
 }
 

@@ -1,4 +1,4 @@
-//! What a line may be answered.
+//! What a line may be answered, as `client_run` gives it and `writing` writes it.
 
 use crate::Refusal;
 use search_text::Texts;
@@ -32,7 +32,7 @@ pub enum Reply {
         as_of: u64,
         /// The query's selected fields, printed, in the text's order.
         fields: Texts,
-        /// What the query leaves of each trace, in the order in which the traces are told.
+        /// What the query leaves of each trace, in the order in which the traces are shown.
         results: Results,
     },
     /// The series of a metrics query.

@@ -1,4 +1,4 @@
-//! What a line may ask.
+//! What a line may ask, as `reading` gives it and `client_run` answers it.
 
 ghost use Rattle.std.specs.Prelude.{◌<◌, ◌≤◌};
 ghost use Rattle.traceql_metrics.specs.Series.{bucket_count, most_buckets};
@@ -18,11 +18,11 @@ pub enum Request {
         /// When the line was read, in nanoseconds.
         moment: u64,
     },
-    /// `trace ID`: the spans of this trace are to be told.
+    /// `trace ID`: the spans of this trace are to be shown.
     Trace(TraceId),
-    /// `search .. QUERY`: the traces of which the query leaves something are to be told.
+    /// `search .. QUERY`: the traces of which the query leaves something are to be shown.
     Search(Search),
-    /// `metrics .. QUERY`: how many spans that the query finds begin in each bucket of time is to be told.
+    /// `metrics .. QUERY`: how many spans that the query finds begin in each bucket of time is to be shown.
     Metrics(Metrics),
     /// `cut`: the traces to which nothing came for some time are to be moved to the head.
     Cut {
@@ -46,22 +46,23 @@ pub struct Search {
     pub checked: Checked,
     /// A trace counts of which a span starts in this range.
     pub range: Range,
-    /// How many traces are told at most, from 1 to 1,000.
+    /// How many traces are shown at most, from 1 to 1,000.
     pub limit: u32,
-    /// How many spans of a spanset are told at most, from 1 to 1,000.
+    /// How many spans of a spanset are shown at most, from 1 to 1,000.
     pub spans_per_set: u32,
 }
 
 /// A metrics query, with at most 1,000 buckets.
 #[derive(Drop)]
 pub struct Metrics {
-    /// The query whose spans are counted, with the stage `by` behind it if they are split. Its kinds fit, and it has its patterns.
+    /// The query whose spans are counted, with the stage `by` after it if they are split. Its kinds fit, and it has
+    /// its patterns.
     pub checked: Checked,
-    /// Whether a rate for a second is told and not the count itself.
+    /// Whether a rate for a second is shown and not the count itself.
     pub rate: bool,
     /// The first moment that counts.
     pub start: u64,
-    /// The moment behind the last one that counts.
+    /// The moment after the last one that counts.
     pub end: u64,
     /// How long a bucket is; the last one ends with the range.
     pub step: u64,

@@ -1,4 +1,4 @@
-//! What a search's line asks, from its parts.
+//! What a search's line asks, from its parts: the query is parsed and checked, and its patterns made.
 
 ghost use Rattle.std.specs.Prelude.{◌≡◌, ℕ, List, [], IfOk, IfErr, MatchResult};
 ghost use Rattle.traceql_syntax.specs.Refusals.{IsRefusal};

@@ -1,4 +1,4 @@
-//! The texts of replies.
+//! Writing replies: from a reply to the line of its text.
 
 ghost use Rattle.std.specs.Prelude.{◌≡◌, IfOk, codes, string_bytes};
 ghost use Rattle.session_text.specs.declared.reply.Reply.TheVariants.{Measured, Searched, Traced};
@@ -12,7 +12,7 @@ use spanset_eval::{Results, SeriesList};
 use std::alloc::{AllocError, Global};
 use store_state::Refusal as RoundRefusal;
 
-/// The text of a reply, with its line feed. The one error is want of memory.
+/// The text of a reply, with its line feed. The one error is out of memory.
 ///
 /// The rows of a trace come in order of start, then span id; they are written as they stand.
 pub fn write_reply(alloc: Global, reply: &Reply) -> Result<Text, Memory>
@@ -150,7 +150,7 @@ fn reclaimed(alloc: Global, files: u64) -> Result<String, AllocError>
     format!(in alloc; "ok reclaim files={files}\n")
 }
 
-/// A refusal.
+/// The line of a refusal: its name, and the numbers or the text that go with it.
 fn refused(alloc: Global, why: &Refusal) -> Result<String, AllocError>
     ensures { IfOk result (λ text. string_bytes text ≡ refusal_text why.now) }
 {
@@ -190,7 +190,7 @@ fn not_store(alloc: Global, file: u32, at: u64) -> Result<String, AllocError>
     format!(in alloc; "refused not-store file={file} at={at}\n")
 }
 
-/// The refusal of a round.
+/// The refusal of a flush or a compaction. Some names are those of other refusals, since the cause is the same.
 fn round(alloc: Global, why: RoundRefusal) -> Result<String, AllocError>
     ensures { IfOk result (λ text. string_bytes text ≡ round_text why) }
 {

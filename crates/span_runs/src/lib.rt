@@ -1,4 +1,5 @@
-//! Runs of neighbouring spans that come from one resource, or from one scope.
+//! Runs of neighbouring spans that come from one resource, or from one scope. The log and the JSON of a trace both
+//! name a resource once a run.
 #![tactic(auto)]
 
 mod origins;

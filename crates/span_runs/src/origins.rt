@@ -1,4 +1,4 @@
-//! Where spans come from, and what has a span.
+//! What runs are made by: where a span comes from, and what has a span.
 
 ghost use Rattle.std.specs.Prelude.{◌≡◌};
 ghost use Rattle.std.specs.Bool.{Decides};

@@ -1,4 +1,4 @@
-//! The first run of a list.
+//! The first run of a list, and what comes after it.
 
 ghost use Rattle.std.specs.Prelude.{◌≡◌, ◌<◌, ◌++◌, length, map};
 ghost use Rattle.span_runs.specs.Runs.{as_run, of_one, runs};

@@ -1,4 +1,4 @@
--- Marks on the spans of a trace.
+-- Marks on the spans of a trace, by position: what each call of a tree makes of the caller's.
 use Rattle.std.specs.Prelude.{◌≡◌, ℕ, List, Bool, true, false, Option, None, Some, length, slice_index_or}
 
 -- The position has a mark.

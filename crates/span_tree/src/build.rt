@@ -1,4 +1,4 @@
-//! The tables of a tree: where each span's parent stands, and which spans name one parent.
+//! Building the tables of a tree from its rows: where each span's parent stands, and which spans name one parent.
 
 ghost use Rattle.std.specs.Prelude.{◌≡◌, IfOk, map};
 ghost use Rattle.std.specs.Option.{option_and_then};

@@ -1,4 +1,5 @@
-//! The members of groups, in the order of their positions.
+//! Groups of spans, as those of one parent: their members in the order of their positions, for the walks down and
+//! among siblings.
 
 ghost use Rattle.std.specs.Prelude.{◌≡◌, ◌+◌, ◌*◌, ◌<◌, ◌≤◌, ℕ, Some, false, IfOk, OnOk, length, slice_index_or, slice_set};
 ghost use Rattle.std.specs.Option.{option_and_then, option_map_or};
@@ -19,8 +20,8 @@ pub struct Members {
     pub before: Table,
 }
 
-/// The members of the groups, of which the table has one for each position, or none. Each position is visited twice, and
-/// between these visits its group, where it has one.
+/// The members of the groups, of which the table has one for each position, or none. Each position is visited twice,
+/// and between these visits its group, where it has one.
 pub fn members_of<L: Ledger>(
     alloc: Global,
     groups: &Table,

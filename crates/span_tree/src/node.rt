@@ -1,4 +1,4 @@
-//! What the relations see of a span.
+//! What the relations see of a span. All else of a row stays out of a tree.
 
 use span_types::SpanId;
 

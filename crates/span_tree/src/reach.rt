@@ -1,4 +1,4 @@
-//! Where tables of positions lead from marked ones.
+//! Where tables of positions lead from marked ones: the walks to parents, children, ancestors and descendants.
 
 ghost use Rattle.std.specs.Prelude.{◌≡◌, ◌+◌, ◌*◌, ◌<◌, ◌≤◌, ℕ, [], ◌++◌, All, Some, None, false, true, IfOk, OnOk, length, slice_index_or, slice_set, if◌then◌else◌};
 ghost use Rattle.std.specs.Option.{option_to_list};
@@ -95,7 +95,8 @@ pub fn reached<L: Ledger>(
     Ok(found)
 }
 
-// One visit: the position is marked. Where it wasn't marked before, the places to which the tables lead from it are ahead.
+// One visit: the position is marked. Where it wasn't marked before, the places to which the tables lead from it are
+// ahead.
 fn visit<L: Ledger>(
     found: &mut Found,
     ahead: &mut Vec<usize>,

@@ -5,9 +5,9 @@ ghost use Rattle.std.specs.Prelude.{◌≡◌, ◌+◌, ◌<◌};
 use std::marker::Model;
 use std::sync::ledger::{Blank, Book, Ledger, Share};
 
-/// How many steps were taken, which contracts see as a number. A step is one visit of a span: it reads or writes entries
-/// and marks of this one span, so that going on to another span, or back to one, is another step. The count takes no
-/// bytes, and only [`tick`](Steps::tick) changes it.
+/// How many steps were taken, which contracts see as a number. A step is one visit of a span: it reads or writes
+/// entries and marks of this one span, so that going on to another span, or back to one, is another step. The count
+/// takes no bytes, and only [`tick`](Steps::tick) changes it.
 #[derive(Drop)]
 pub struct Steps<L: Ledger> {
     book: Book<L>,

@@ -1,4 +1,4 @@
-//! Trees of spans.
+//! Trees of spans, and the five calls that mark what stands in a relation to marked spans.
 
 ghost use Rattle.std.specs.Prelude.{◌≡◌, ◌+◌, ◌*◌, ◌≤◌, IfOk, OnOk, length};
 ghost use Rattle.span_tree.specs.Nodes.{nodes_of, IsOneTrace};
@@ -16,10 +16,10 @@ use std::sync::ledger::Ledger;
 /// The spans of one trace by position, with where each one's parent stands. Contracts see it as the list of the spans'
 /// own ids and their parents'.
 ///
-/// Five calls mark what stands in a relation to marked spans, in at most eight steps for each span of the tree. A step is
-/// one visit of a span: it reads or writes entries and marks of this one span, so that going on to another span, or back
-/// to one, is another step. The calls reach entries and marks by such visits alone, so a call that answers takes at least
-/// the steps that its clause `least` says. To build the tree counts as no step.
+/// Five calls mark what stands in a relation to marked spans, in at most eight steps for each span of the tree. A step
+/// is one visit of a span: it reads or writes entries and marks of this one span, so that going on to another span, or
+/// back to one, is another step. The calls reach entries and marks by such visits alone, so a call that answers takes
+/// at least the steps that its clause `least` says. To build the tree counts as no step.
 #[derive(Debug, Drop)]
 pub struct Tree {
     spans: Spans,
@@ -64,7 +64,8 @@ impl Tree {
         })
     }
 
-    /// Marks on the children of marked spans. Each span is visited twice, and in between its parent, where that is there.
+    /// Marks on the children of marked spans. Each span is visited twice, and in between its parent, where that is
+    /// there.
     pub fn mark_children<L: Ledger>(
         &self,
         marked: &Marks,
@@ -104,8 +105,8 @@ impl Tree {
         Ok(found.into_marks())
     }
 
-    /// Marks on the ancestors of marked spans. In a ring of parents a span is its own ancestor. Each span is visited once,
-    /// and then the walk goes up from the marked ones, and on from a span only once.
+    /// Marks on the ancestors of marked spans. In a ring of parents a span is its own ancestor. Each span is visited
+    /// once, and then the walk goes up from the marked ones, and on from a span only once.
     pub fn mark_ancestors<L: Ledger>(
         &self,
         marked: &Marks,
@@ -127,9 +128,9 @@ impl Tree {
         Ok(found.into_marks())
     }
 
-    /// Marks on the descendants of marked spans, the spans that have a marked ancestor. Each span is visited twice, and in
-    /// between its parent, to find each one's children, and once more for its mark. Then the walk goes down from the
-    /// marked ones, and on from a span only once.
+    /// Marks on the descendants of marked spans, the spans that have a marked ancestor. Each span is visited twice,
+    /// and in between its parent, to find each one's children, and once more for its mark. Then the walk goes down
+    /// from the marked ones, and on from a span only once.
     pub fn mark_descendants<L: Ledger>(
         &self,
         marked: &Marks,
@@ -154,7 +155,8 @@ impl Tree {
 
     /// Marks on the siblings of marked spans: the other spans that name the same parent, whether that is there or not.
     /// Each span is visited twice for its mark, twice to find which marked spans are of its family, and twice to see
-    /// whether another than itself is. Both of the latter times the span that stands for the family is visited in between.
+    /// whether another than itself is. Both of the latter times the span that stands for the family is visited in
+    /// between.
     pub fn mark_siblings<L: Ledger>(
         &self,
         marked: &Marks,

@@ -1,9 +1,9 @@
 //! What belongs to each span, its entries in tables and its marks, reached by visits alone.
 //!
 //! A step is one visit of a span: it reads or writes entries and marks of this one span, so that going on to another
-//! span, or back to one, is another step. The modules that walk see no entry and no mark but by a visit: the fields are
-//! private here, and each function that touches some takes one position, or that at which they end, touches what belongs
-//! to the span there, and takes one step. A table in which nothing stands yet is made without a visit.
+//! span, or back to one, is another step. The modules that walk see no entry and no mark but by a visit: the fields
+//! are private here, and each function that touches some takes one position, or that at which they end, touches what
+//! belongs to the span there, and takes one step. A table in which nothing stands yet is made without a visit.
 
 ghost use Rattle.std.specs.Prelude.{◌≡◌, ◌+◌, ◌<◌, [], ◌∷◌, ◌++◌, Some, None, false, true, IfOk, OnOk, length, replicate, slice_index_or, slice_set, if◌then◌else◌};
 ghost use Rattle.span_tree.specs.Tables.{at};

@@ -1,4 +1,4 @@
--- A batch as its spans.
+-- A batch as contracts see it: its spans.
 use Rattle.std.specs.Prelude.{List}
 use Rattle.span_types.specs.declared.spans.Span.{Span}
 

@@ -1,4 +1,4 @@
--- Counts of faults. A device counts its failed calls in a number of 64 bits, which stands still at its last value.
+-- Counts of faults. A device counts its failed calls in a number of 64 bits, which saturates at its last value.
 use Rattle.std.specs.Prelude.{ℕ, ◌+◌, ◌-◌, ◌^◌, ◌≤◌, min}
 
 -- The count of faults rose in between, or it stands at the last value of its type.

@@ -1,4 +1,4 @@
--- A link as its parts.
+-- A link as contracts see it: its parts.
 use Rattle.std.specs.Prelude.{List}
 use Rattle.span_types.specs.declared.attrs.Attr.{Attr}
 use Rattle.span_types.specs.declared.ids.SpanId.{SpanId}

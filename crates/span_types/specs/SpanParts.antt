@@ -1,4 +1,4 @@
--- A span as its parts.
+-- A span as contracts see it: its parts.
 use Rattle.std.specs.Prelude.{ℕ, List, Option}
 use Rattle.span_types.specs.declared.attrs.Attr.{Attr}
 use Rattle.span_types.specs.declared.attrs.Resource.{Resource}

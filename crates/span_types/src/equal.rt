@@ -1,4 +1,5 @@
-//! When values, attributes, resources and scopes are equal: exactly where contracts see the same. So each can be a map's key.
+//! When values, attributes, resources and scopes are equal: exactly where contracts see the same. So each can be a
+//! map's key.
 
 ghost use Rattle.std.specs.Cmp.{partial_equiv_from_equiv};
 ghost use Rattle.std.specs.Hash as fed;

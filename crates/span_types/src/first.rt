@@ -1,4 +1,5 @@
-//! First occurrences.
+//! First occurrences: of several rows of one span the one that was pushed first. A query answers over them, and a
+//! block holds nothing else.
 
 ghost use Rattle.std.specs.Prelude.{◌≡◌, IfOk, OnOk, ◌++◌, List, option_copied};
 ghost use Rattle.std.specs.BTreeMap.{get, values, IsOrdered};
@@ -13,9 +14,9 @@ use std::alloc::Global;
 use std::cmp::Ordering;
 use std::collections::BTreeMap;
 
-/// The first occurrences among the rows: where several rows are of one span, the row that came in first stays and the others
-/// go. What stays is in block order, which is by trace, then by start, then by span. Should rows of one span have the same
-/// place, the one nearest the list's beginning stays.
+/// The first occurrences among the rows: where several rows are of one span, the row that came in first stays and the
+/// others go. What stays is in block order, which is by trace, then by start, then by span. Should rows of one span
+/// have the same place, the one nearest the list's beginning stays.
 pub fn first_rows(alloc: Global, rows: Rows) -> Result<Rows, Memory>
     ensures { IfOk result (λ firsts. IsFirstOf rows firsts) }
 {
@@ -25,8 +26,8 @@ pub fn first_rows(alloc: Global, rows: Rows) -> Result<Rows, Memory>
     Ok(Rows::of(kept))
 }
 
-/// The first occurrences of what `firsts` are the first occurrences of, followed by more rows. So they can be joined part
-/// by part; where no two rows have one place, the order of the parts doesn't matter.
+/// The first occurrences of what `firsts` are the first occurrences of, followed by more rows. So they can be joined
+/// part by part; where no two rows have one place, the order of the parts doesn't matter.
 pub fn first_rows_more(alloc: Global, firsts: Rows, more: Rows) -> Result<Rows, Memory>
     ensures { IfOk result (λ all. (base : List Row) → IsFirstOf base firsts → IsFirstOf (base ++ more) all) }
 {
@@ -37,7 +38,7 @@ pub fn first_rows_more(alloc: Global, firsts: Rows, more: Rows) -> Result<Rows, 
     Ok(all)
 }
 
-// The rows of the map.
+// The rows of the map, which come by key. They are sorted into block order after this, since keys have no start.
 fn rows_of(alloc: Global, firsts: BTreeMap<Key, Row>) -> Result<Vec<Row>, Memory>
     ensures rows { IfOk result (λ kept. kept.items ≡ values firsts) }
     ensures ordered { IsOrdered key_cmp firsts }
@@ -49,7 +50,7 @@ fn rows_of(alloc: Global, firsts: BTreeMap<Key, Row>) -> Result<Vec<Row>, Memory
     Ok(kept)
 }
 
-// The order of rows in a block.
+// By trace, then by start, then by span. No two first occurrences are equal in it.
 fn in_block_order(a: &Row, b: &Row) -> Ordering
     ensures { result ≡ block_order a.now b.now }
 {
@@ -58,7 +59,7 @@ fn in_block_order(a: &Row, b: &Row) -> Ordering
     trace.then(start).then(a.span.id.cmp(&b.span.id))
 }
 
-// The first row of each key.
+// The first row of each key. The map costs n log n, however many rows are of one span.
 fn firsts_by_key(alloc: Global, rows: Vec<Row>) -> Result<BTreeMap<Key, Row>, Memory>
     ensures { IfOk result (λ m. (k : Key) → get key_cmp m k ≡ first_at k rows.items) }
 {

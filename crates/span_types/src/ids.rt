@@ -1,4 +1,4 @@
-//! Ids, keys and places.
+//! Ids of traces and spans, the key that makes two spans the same, and the place of a row in the order of pushes.
 
 /// A trace's id: 16 bytes, ordered by their bytes. An id of zeros alone names no trace.
 #[derive(Clone, Copy, Debug, PartialEq, Eq, PartialOrd, Ord, Hash)]

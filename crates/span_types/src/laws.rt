@@ -1,4 +1,7 @@
-//! Laws of what is defined here.
+//! Theorems about numbers of kinds and codes, and about equal resources and scopes.
+//!
+//! Each function has an empty body: its contract is the statement, and its proof is found by the check or stands in
+//! `proofs/laws/`. Nothing calls them.
 
 ghost use Rattle.std.specs.Prelude.{◌≡◌, ◌↔◌, ℕ, IsTrue, Some};
 ghost use Rattle.span_types.specs.Equal.{same_resource, same_scope};

@@ -52,7 +52,7 @@ abbrev pub Above : Value → List SplitPart → Type 0
 Above v [] = Unit
 Above v (p ∷ ps) = (value_cmp v p.value ≡ Less) × Above v ps
 
--- Each part is of a lower value than all behind it.
+-- Each part is of a lower value than all after it.
 abbrev pub Ascend : List SplitPart → Type 0
 Ascend [] = Unit
 Ascend (p ∷ ps) = Above p.value ps × Ascend ps

@@ -1,4 +1,4 @@
-//! Aggregates of numbers, exactly.
+//! Aggregates of numbers, exactly, and their comparisons: the stages that ask `count`, `min`, `max`, `avg` or `sum`.
 
 ghost use Rattle.std.specs.Prelude.{◌≡◌, ◌<◌, ◌++◌, pos, ◌*ℤ◌, ◌+ℤ◌, IfOk, OnOk};
 ghost use Rattle.std.specs.Option.{option_to_list};
@@ -21,7 +21,7 @@ pub struct Amount {
     pub bottom: u64,
 }
 
-// A whole number.
+// A whole number is a quotient too, so that averages and numbers compare alike.
 fn whole(top: i128) -> Amount
     ensures { result ≡ record { top = top; bottom = 1 } }
 {
@@ -130,7 +130,7 @@ fn aggregate<'a>(
     }
 }
 
-// A number with its sign.
+// A number of 64 bits without sign and a minus fit 128 bits with sign.
 fn signed(negative: bool, number: u64) -> i128
     ensures { result ≡ signed negative number }
 {
@@ -173,7 +173,7 @@ struct Divided {
     rest: u64,
 }
 
-// The amount, divided.
+// The quotient is rounded down, so that what remains isn't negative.
 fn divide(amount: Amount) -> Divided
     requires { 0 < amount.bottom }
     ensures is { amount.top ≡ result.whole *ℤ pos amount.bottom +ℤ pos result.rest }

@@ -1,4 +1,5 @@
-//! Filters, and what expressions are, for the spans of a trace by their positions.
+//! Filters, and what expressions are, for the spans of a trace by their positions: the step from a span's value to
+//! marks and members.
 
 ghost use Rattle.std.specs.Prelude.{◌≡◌, length, map, filter, IfOk};
 ghost use Rattle.traceql_value.specs.EvalContexts.{context_rows, IsSame};

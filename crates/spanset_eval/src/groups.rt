@@ -1,4 +1,4 @@
-//! Spansets while the stages work on them.
+//! Spansets while the stages work on them: positions, and the values by which they were split off.
 
 use span_types::Seq;
 use traceql_value::Values;

@@ -1,4 +1,4 @@
-//! Marks on the spans of a trace, taken together.
+//! Marks on the spans of a trace, taken together: what operators between spansets come to.
 
 ghost use Rattle.std.specs.Prelude.{◌≡◌, ℕ, ◌<◌, ◌&&◌, ◌||◌, not, true, false, IfOk, IsTrue, ◌↔◌, length, filter, slice_index_or};
 ghost use Rattle.span_tree.specs.Marking.{IsMarked};

@@ -1,4 +1,4 @@
-//! What a query answers of a trace.
+//! The entry points: what a query answers of a trace, from its selection through its stages to what is shown.
 
 ghost use Rattle.std.specs.Prelude.{◌≡◌, ◌<◌, IfOk, None};
 ghost use Rattle.span_tree.specs.Nodes.{IsOneTrace};
@@ -52,8 +52,8 @@ fn select_stepping<L: Ledger>(
     marks::marked(context.alloc(), &marks)
 }
 
-/// What a query answers of a trace, whose rows are all of one trace: nothing where no spanset is left. All spans of each
-/// spanset are shown.
+/// What a query answers of a trace, whose rows are all of one trace: nothing where no spanset is left. All spans of
+/// each spanset are shown.
 pub fn evaluate(
     alloc: Global,
     checked: &Checked,
@@ -67,9 +67,9 @@ pub fn evaluate(
     outcome(&checked.query, &mut context, None)
 }
 
-/// The same of a slice of rows, with at most so many spans of each spanset: the first ones. How many a spanset has is told
-/// all the same. The matchers are those of the query's patterns; they are given back for the next trace, also where memory
-/// runs out.
+/// The same of a slice of rows, with at most so many spans of each spanset: the first ones. How many a spanset has is
+/// given all the same. The matchers are those of the query's patterns; they are given back for the next trace, also
+/// where memory runs out.
 pub fn evaluate_rows<'q>(
     alloc: Global,
     checked: &Checked,

@@ -69,8 +69,8 @@ impl<'v> Part<'v> {
         })
     }
 
-    /// The spanset that the part makes of one that was split off by earlier values: its own value, which is copied, comes
-    /// last.
+    /// The spanset that the part makes of one that was split off by earlier values: its own value, which is copied,
+    /// comes last.
     pub fn into_group(self, alloc: Global, by: Values) -> Result<Group, Memory>
         ensures { IfOk result (λ group. group ≡ part_group by self.entry) }
     {
@@ -129,7 +129,7 @@ fn merge<'v>(
     Ok(merged)
 }
 
-// TakesPart the part that comes first off two lists, the last of each of which comes first in it.
+// Takes the part that comes first off two lists, the last of each of which comes first in it.
 fn take_next<'v>(
     left: &mut Vec<Part<'v>>,
     right: &mut Vec<Part<'v>>,

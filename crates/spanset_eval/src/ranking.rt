@@ -1,4 +1,4 @@
-//! Which results come first.
+//! Which results come first, when those of several traces stand together.
 
 ghost use Rattle.std.specs.Prelude.{◌≡◌, IfOk};
 ghost use Rattle.spanset_eval.specs.Ranking.{AreFirst, rank_cmp};

@@ -1,4 +1,5 @@
-//! Structural operators.
+//! Structural operators, as `>` and `>>`: from marks on both sides to marks on what is selected, by the relations of
+//! `span_tree`.
 
 ghost use Rattle.std.specs.Prelude.{◌≡◌, ℕ, List, [], false, IfOk, length};
 ghost use Rattle.span_tree.specs.Marking.{IsMarked, MarksExactly};
@@ -155,8 +156,8 @@ fn relate<L: Ledger>(
     marks
 }
 
-/// Marks on what an operator between two spansets selects of the marked spans. Only a structural operator whose sides both
-/// have marks wants the trace's tree: it is made for the first one, and kept in `made` for others.
+/// Marks on what an operator between two spansets selects of the marked spans. Only a structural operator whose sides
+/// both have marks wants the trace's tree: it is made for the first one, and kept in `made` for others.
 pub fn join_marks<L: Ledger>(
     alloc: Global,
     rows: &[Row],

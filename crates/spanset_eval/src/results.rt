@@ -1,4 +1,4 @@
-//! What a search answers.
+//! What a search answers, as types: traces, their spansets, and the spans that are shown.
 
 use span_types::{Seq, SpanId, Text, TraceId};
 use traceql_value::{Value, Values};

@@ -1,4 +1,4 @@
-//! Which spans an expression over spansets selects.
+//! Which spans an expression over spansets selects: from the tree of the expression to marks.
 
 ghost use Rattle.std.specs.Prelude.{◌≡◌, ℕ, IfOk, length, reverse};
 ghost use Rattle.span_tree.specs.Nodes.{IsOneTrace};
@@ -52,9 +52,9 @@ fn unchain<'e>(
     }
 }
 
-/// Marks on the spans that the expression selects, one for each row of the trace. `made` has the trace's tree where one
-/// was made, and is for the next call. A chain of operators, each the left operand of the next, is worked off a list and
-/// needs no stack.
+/// Marks on the spans that the expression selects, one for each row of the trace. `made` has the trace's tree where
+/// one was made, and is for the next call. A chain of operators, each the left operand of the next, is worked off a
+/// list and needs no stack.
 pub fn select<L: Ledger>(
     context: &mut EvalContext<'_, '_>,
     made: &mut Option<Tree>,

@@ -1,4 +1,5 @@
-//! What a metrics query answers: counts over steps of time.
+//! What a metrics query answers, as types: counts over steps of time. `traceql_metrics` makes them of a search's
+//! results.
 
 use span_types::Seq;
 use traceql_value::Values;

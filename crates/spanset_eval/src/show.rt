@@ -1,4 +1,4 @@
-//! What is shown of a trace and of its spansets.
+//! What is shown of a trace and of its spansets: from positions to results with the fields that `select` names.
 
 ghost use Rattle.std.specs.Prelude.{◌≡◌, ◌<◌, ◌++◌, IfOk, OnOk, None, length, map, if◌then◌else◌};
 ghost use Rattle.std.specs.List.{filter_map};

@@ -1,4 +1,5 @@
-//! What a query's stages make of spansets.
+//! What a query's stages make of spansets, one stage after another: `by`, `coalesce`, `select`, filters and
+//! comparisons of aggregates.
 
 ghost use Rattle.std.specs.Prelude.{◌≡◌, ℕ, ◌<◌, ◌==◌, ◌||◌, ◌++◌, ◌∷◌, [], IfOk, OnOk, length, map, filter};
 ghost use Rattle.std.specs.List.{flat_map, list_any};

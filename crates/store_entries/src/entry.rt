@@ -1,4 +1,4 @@
-//! The entries of a history.
+//! The entries of a history, each of which counts one in its length.
 
 use span_types::{Batch, Ids};
 

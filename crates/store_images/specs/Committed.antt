@@ -21,8 +21,8 @@ use Rattle.store_images.specs.Settled.{Tail, IsSettled}
 
 -- ---- a flush
 
--- The image has what the old list names, and its slots stand for the next list: the flush's block comes behind the others, some segments
--- at the front of the log are gone, and a new one without records comes behind the rest. What waits outside of blocks is stored, and
+-- The image has what the old list names, and its slots stand for the next list: the flush's block comes after the others, some segments
+-- at the front of the log are gone, and a new one without records comes after the rest. What waits outside of blocks is stored, and
 -- is at the new floor or above it; with the blocks it has the history's first occurrences, as the old list's rows have.
 pub record CommitsFlush (image : Image) (body new : ListBody) (blocks : List Block) (block : Block) (batches : List (List Span)) (waiting : List Row) (h : History) : Type 0 where
   pub gone : List SegmentRef

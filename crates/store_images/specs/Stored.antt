@@ -42,7 +42,7 @@ BlocksStand image blocks = (block : Block) → Contains blocks block → BlockSt
 abbrev pub first_number : ListBody → ℕ
 first_number body = slice_index (firsts_of body) 0
 
--- the rows of the blocks, and behind them those of batches whose numbers count up from this one
+-- the rows of the blocks, and after them those of batches whose numbers count up from this one
 abbrev pub stored_rows : List Block → ℕ → List (List Span) → List Row
 stored_rows blocks first batches = block_rows blocks ++ record_rows first batches
 

@@ -1,4 +1,8 @@
-//! Laws of images.
+//! Theorems about images: a load of the list, and the commit of a flush or of a compaction, leave the history for
+//! which an image stands.
+//!
+//! Each function has an empty body: its contract is the statement, and its proof stands in `proofs/laws/`. Nothing
+//! calls them; proofs of `store_core`, `stored_history` and `trace_shell` cite the lemmas.
 
 ghost use Rattle.std.specs.Prelude.{◌≡◌, ℕ, ◌+◌, ◌<◌, ◌≤◌, List, [], ◌∷◌, ◌++◌, drop, Option, Some, None};
 ghost use Rattle.std.specs.List.{Contains};
@@ -36,9 +40,9 @@ pub fn one_stored_list()
     ensures { (image : Image) (list other : Option ListBody) → ImageHoldsList image list → ImageHoldsList image other → list ≡ other }
 {}
 
-/// A store has the first occurrences of a history. Of its rows some wait outside of blocks, and others become a further block that
-/// has, with the listed blocks and what still waits, the same first occurrences. Then the store has them with that block, and with
-/// the log from any number on that no row which waits is below.
+/// A store has the first occurrences of a history. Of its rows some wait outside of blocks, and others become a
+/// further block that has, with the listed blocks and what still waits, the same first occurrences. Then the store has
+/// them with that block, and with the log from any number on that no row which waits is below.
 pub fn a_committed_flush_agrees()
     ensures { (blocks : List Block) (block : Block) (first gone : ℕ) (batches : List (List Span)) (waiting : List Row)
         (h : History) → AgreesOn (stored_rows blocks first batches) h
@@ -54,9 +58,9 @@ pub fn a_committed_flush_stands()
         (waiting : List Row) (h : History) → CommitsFlush image body new blocks block batches waiting h → ImageStandsFor image h }
 {}
 
-/// A store has the first occurrences of a history. Of its blocks those in some files become one block, which comes last and holds the
-/// first occurrences of their rows. Then the store has the history's first occurrences still, and where the records below a number
-/// brought none of them, they bring none.
+/// A store has the first occurrences of a history. Of its blocks those in some files become one block, which comes
+/// last and holds the first occurrences of their rows. Then the store has the history's first occurrences still, and
+/// where the records below a number brought none of them, they bring none.
 pub fn a_committed_compaction_agrees()
     ensures firsts { (files : List ℕ) (blocks : List Block) (block : Block) (first : ℕ) (batches : List (List Span))
         (h : History) → IsFirstOf (block_rows (in_files files blocks)) block.rows
@@ -77,9 +81,9 @@ pub fn a_committed_compaction_stands()
         → ImageStandsFor image h }
 {}
 
-// Where a compaction's list may be written into a slot, each image that a crash leaves on the way stands for the history. Once the
-// slots stand for that list, with a next one to follow, the disk is settled by it, with the log's last segment as it was. Here a
-// crash leaves one of a list of images; the lemmas say it of any.
+// Where a compaction's list may be written into a slot, each image that a crash leaves on the way stands for the
+// history. Once the slots stand for that list, with a next one to follow, the disk is settled by it, with the log's
+// last segment as it was. Here a crash leaves one of a list of images; the lemmas say it of any.
 fn a_compaction_settles()
     ensures on_the_way { (held : Image) (images : List Image) (body new : ListBody) (files : List ℕ)
         (blocks : List Block) (block : Block) (tail : Tail) (h : History)

@@ -1,7 +1,7 @@
 //! What an image of the disk stores: the rows and the length of a history, by its list, its blocks and its log.
 //!
-//! Nothing here runs. The definitions stand in `specs/` (`Stored` is the one to begin with), and each function here is a law about
-//! them: its contract is the law.
+//! Nothing here runs. The definitions stand in `specs/` (`Stored` is the one to begin with), and each function here is
+//! a law about them: its contract is the law.
 #![tactic(auto)]
 
 mod laws;

@@ -37,7 +37,7 @@ after_append n (e ∷ es) more rows =
 pub goes_on : (h : History) (more : List Entry) → history_rows (grown h more) ≡ after_entries (count_of h) more (history_rows h)
 goes_on h more = after_append h.start h.entries more h.base
 
--- A push adds its rows behind those of the history.
+-- A push adds its rows after those of the history.
 pub grows : (h : History) (spans : List Span) → history_rows (pushed h spans) ≡ history_rows h ++ batch_rows (count_of h) spans
 grows h spans = goes_on h (push_of spans ∷ [])
 

@@ -1,4 +1,7 @@
-//! Laws of the machine.
+//! Theorems about histories and about the machine: what each of its steps keeps, tells and opens.
+//!
+//! Each function has an empty body: its contract is the statement, and its proof stands in `proofs/laws/`. Nothing
+//! calls them; proofs of `store_core` and of most crates above it cite the lemmas.
 
 ghost use Rattle.std.specs.Prelude.{true, false, ◌≡◌, ◌≤◌, ℕ, List, ◌++◌};
 ghost use Rattle.std.specs.List.Sorted.{IsPermutation};
@@ -19,8 +22,8 @@ ghost use Rattle.store_model.specs.Laws.{Agrees};
 ghost use Rattle.store_model.specs.Sound.{StateIsSound, IsOutOfUse, emptied};
 ghost use Rattle.store_model.specs.Fresh.{GivesNewFiles, AreApart};
 
-/// Entries that are added make of the history's rows what they make of any: a push adds its own after them, and a forgetting
-/// takes those of its traces away.
+/// Entries that are added make of the history's rows what they make of any: a push adds its own after them, and a
+/// forgetting takes those of its traces away.
 pub fn entries_follow()
     ensures { (h : History) (more : List Entry) →
         history_rows (grown h more) ≡ after_entries (count_of h) more (history_rows h) }
@@ -31,7 +34,7 @@ pub fn the_past_stays()
     ensures { (h : History) (more : List Entry) (n : ℕ) → n ≤ count_of h → up_to n (grown h more) ≡ up_to n h }
 {}
 
-/// A push adds its rows behind those of the history.
+/// A push adds its rows after those of the history.
 pub fn history_grows()
     ensures { (h : History) (spans : List Span) →
         history_rows (pushed h spans) ≡ history_rows h ++ batch_rows (count_of h) spans }
@@ -61,13 +64,14 @@ pub fn step_keeps_sound()
         StateIsSound m.state → Step before faults m e r m' → StateIsSound m'.state }
 {}
 
-/// An event empties only files that are out of use: no pin names them, the list has them as no segment and no block, and no open
-/// job was given them.
+/// An event empties only files that are out of use: no pin names them, the list has them as no segment and no block,
+/// and no open job was given them.
 pub fn used_files_are_not_emptied()
     ensures { (u : State) (e : Event) (file : ℕ) → StateIsSound u → is_among file (emptied e u) ≡ true → IsOutOfUse file u }
 {}
 
-/// A file number is given out once: the next one never falls, and what a step gives out lies between the old and the new one.
+/// A file number is given out once: the next one never falls, and what a step gives out lies between the old and the
+/// new one.
 pub fn files_are_given_out_once()
     ensures { (before faults : ℕ) (m m' : Machine) (e : Event) (r : Reply) → Step before faults m e r m' →
         GivesNewFiles m.state r m'.state }
@@ -79,15 +83,15 @@ pub fn what_opens_is_new()
         Step before faults m e r m' → Contains (opened r) new → OpenIn m old → AreApart new old }
 {}
 
-/// What is open stays open and what it was, but for what the event ends: a look keeps its blocks, and with its rows they have
-/// the first occurrences of the history as it was; a job keeps its file, rows and pin.
+/// What is open stays open and what it was, but for what the event ends: a look keeps its blocks, and with its rows
+/// they have the first occurrences of the history as it was; a job keeps its file, rows and pin.
 pub fn step_keeps_what_is_open()
     ensures { (before faults : ℕ) (m m' : Machine) (e : Event) (r : Reply) (hold : Hold) → OpenIn m hold →
         ends e r hold ≡ false → Step before faults m e r m' → OpenIn m' hold }
 {}
 
-/// An event that is to add an entry, and answers a number, adds it under the history's length, and nothing else changes the
-/// history. A look is of the history's length.
+/// An event that is to add an entry, and answers a number, adds it under the history's length, and nothing else
+/// changes the history. A look is of the history's length.
 pub fn step_tells_the_history()
     ensures { (before faults : ℕ) (m m' : Machine) (e : Event) (r : Reply) → Step before faults m e r m' →
         (m'.history ≡ history_after e r m.history) × TellsLength e r m.history }

@@ -1,7 +1,10 @@
 //! The store as a machine without a disk: its history, what it keeps beside it, and the steps of its events.
 //!
-//! Nothing here runs. The definitions stand in `specs/` (`Step` is the one to begin with), and each function here is a law about
-//! them: its contract is the law.
+//! Nothing here runs. The definitions stand in `specs/` (`Step` is the one to begin with), and each function here is a
+//! law about them: its contract is the law.
+//!
+//! It is the uppermost of three levels. `store_core` is the program, each of whose events is a step of this machine,
+//! and `disk_model` says what a disk does and what a crash may leave of it.
 #![tactic(auto)]
 
 mod laws;

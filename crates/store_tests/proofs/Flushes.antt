@@ -1,4 +1,4 @@
--- What is open in a port before a flush or a compaction, once a flush began, and behind whole rounds.
+-- What is open in a port before a flush or a compaction, once a flush began, and after whole rounds.
 use Rattle.std.proofs.Common.{◌≡◌, zero, List, [], ◌∷◌, refl, sym, subst, arith}
 use Rattle.std.specs.Prelude.{Option, Some, Ok}
 use Rattle.store_model.specs.Event.{Event, Reply}
@@ -17,7 +17,7 @@ pub goes_on : {P : Type 0} (meaning : Meaning P) (old new : P) (event : Event) (
     → ((held : List Hold) × meaning.holds old held) → (held : List Hold) × meaning.holds new held
 goes_on meaning old new event reply called (held, known) = (holds_after event reply held, called.holds held known)
 
--- It does so behind several calls.
+-- It does so after several calls.
 pub goes_on_all : {P : Type 0} (meaning : Meaning P) (old new : P) (calls : List Call) → AreMade meaning old calls new
     → ((held : List Hold) × meaning.holds old held) → (held : List Hold) × meaning.holds new held
 goes_on_all {P} meaning old new [] made h = subst (λ (x : P). (held : List Hold) × meaning.holds x held) (sym made) h

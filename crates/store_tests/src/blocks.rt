@@ -9,8 +9,8 @@ use std::alloc::Global;
 use std::test::Fail;
 use store_core::OpenError;
 
-// A slot 0 whose list names a segment in file 2, from the number 1 on, and a block in file 3, of level 0 (byte 46) with so many rows
-// (byte 47). The floor is 1 (byte 10), and the next file is 4 (byte 6).
+// A slot 0 whose list names a segment in file 2, from the number 1 on, and a block in file 3, of level 0 (byte 46)
+// with so many rows (byte 47). The floor is 1 (byte 10), and the next file is 4 (byte 6).
 fn slot_of(rows: u8) -> [u8; 51] {
     [
         1, 0x54, 0x53, 0x4c, 0x31, 0, 4, 0, 0, 0, 1, 0, 0, 0, 0, 0, 0, 0, 1, 0, 0, 0, 1, 0, 0, 0,
@@ -21,8 +21,8 @@ fn slot_of(rows: u8) -> [u8; 51] {
 // A segment without records.
 const NO_RECORD: [u8; 2] = [1, 0];
 
-// What the store answers whose list names a block of so many rows, with these bytes in the segment and in the block: a push's number,
-// or why it isn't opened.
+// What the store answers whose list names a block of so many rows, with these bytes in the segment and in the block: a
+// push's number, or why it isn't opened.
 fn opened(
     alloc: Global,
     rows: u8,
@@ -78,7 +78,7 @@ fn a_listed_block_is_checked(rt: HostRuntime) -> Result<(), Fail> {
         let end = front.len() as u64;
         assert!(rt; opened(alloc, 2, &NO_RECORD, front)? == breaks(end));
     }
-    // A segment without a gate breaks at its end, behind the block.
+    // A segment without a gate breaks at its end, after the block.
     let no_gate = Err(OpenError::NotStore { file: 2, at: 0 });
     assert!(rt; opened(alloc, 2, &[], bytes)? == no_gate);
     assert!(rt; opened(alloc, 3, &[], bytes)? == breaks(0));

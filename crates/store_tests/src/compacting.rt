@@ -1,5 +1,5 @@
-//! Compactions of a store over a disk in memory while a look is open, and the emptying of loose files behind them: what each device
-//! call leaves that fails or is the last one before a crash.
+//! Compactions of a store over a disk in memory while a look is open, and the emptying of loose files after them:
+//! what each device call leaves that fails or is the last one before a crash.
 
 ghost use Rattle.std.specs.Prelude.{List};
 ghost use Rattle.store_core.specs.Port.{port_of};
@@ -43,7 +43,7 @@ fn flushes<P: Port>(alloc: Global, port: &mut P) -> bool
     pushed & (round == Round::Did { blocks: 1, rows: 1 })
 }
 
-// How a compaction ends, and what the emptying of loose files behind it answers.
+// How a compaction ends, and what the emptying of loose files after it answers.
 type End = (Round, Result<u64, ReclaimError>);
 
 fn joins<P: Port>(alloc: Global, port: &mut P) -> End
@@ -69,8 +69,9 @@ fn add_pages<P: FlushPort>(port: &mut P, look: &Look, bytes: &mut Vec<u8>) -> bo
     read
 }
 
-// How a compaction ends beside a look, and whether the look's first block has the same bytes before and after it. The compaction reads
-// that block's pages from the frames of the page cache, and so does the look after it, whatever the disk answers.
+// How a compaction ends beside a look, and whether the look's first block has the same bytes before and after it. The
+// compaction reads that block's pages from the frames of the page cache, and so does the look after it, whatever the
+// disk answers.
 fn joins_beside<P: Port>(alloc: Global, port: &mut P, look: &Look) -> (End, bool)
     requires { IsOpen P.meaning port.old (look_of look.now) }
 {
@@ -196,8 +197,8 @@ fn has_both(alloc: Global, image: MemDisk) -> Result<bool, Fail> {
     Ok(tidy && two && has_first(alloc, &mut disk)?)
 }
 
-// Whether the images of a disk are tidy and open to the two entries: what was synced last, what is held, one with ones where a crash
-// leaves a byte open, and one with zeros there.
+// Whether the images of a disk are tidy and open to the two entries: what was synced last, what is held, one with ones
+// where a crash leaves a byte open, and one with zeros there.
 fn images_have_both(alloc: Global, disk: &MemDisk) -> Result<bool, Fail> {
     let mut same = true;
     for pick in 0u64..4 {
@@ -206,7 +207,8 @@ fn images_have_both(alloc: Global, disk: &MemDisk) -> Result<bool, Fail> {
     Ok(same)
 }
 
-// Whether a compaction that is upset ends so, the look's bytes are the same, and both entries are in all that it leaves.
+// Whether a compaction that is upset ends so, the look's bytes are the same, and both entries are in all that it
+// leaves.
 fn ends(alloc: Global, what: Upset, end: End) -> Result<bool, Fail> {
     let mut disk = MemDisk::empty(alloc);
     let ready = disk.upset(alloc, what);
@@ -215,8 +217,8 @@ fn ends(alloc: Global, what: Upset, end: End) -> Result<bool, Fail> {
     Ok(same && images_have_both(alloc, &disk)?)
 }
 
-// The calls before the compaction begins: those of the opening of a new store, four of each push, thirteen of each flush, and four of
-// the look, which reads so many pages.
+// The calls before the compaction begins: those of the opening of a new store, four of each push, thirteen of each
+// flush, and four of the look, which reads so many pages.
 fn calls_before(alloc: Global) -> u64 {
     let disk = match Core::open_store(alloc, MemDisk::empty(alloc), 7) {
         Ok(core) => core.close(),
@@ -231,8 +233,9 @@ const FAULT: Round = Round::Refused(Refusal::Fault);
 
 const READ_ONLY: Result<u64, ReclaimError> = Err(ReclaimError::ReadOnly { faults: 1 });
 
-// The compaction makes two calls for its file, reads the four pages that no frame holds and writes one piece. One call makes the block last, and six write
-// the list. Its files are emptied with two calls each, and six write the list again.
+// The compaction makes two calls for its file, reads the four pages that no frame holds and writes one piece. One call
+// makes the block last, and six write the list. Its files are emptied with two calls each, and six write the list
+// again.
 fn stopped_end(calls: u64) -> End {
     match calls {
         0..=1 => (FAULT, READ_ONLY),

@@ -1,5 +1,5 @@
-//! Flushes of a store over a disk in memory: one is open at a time, and what each device call of a flush leaves that fails or is
-//! the last one before a crash.
+//! Flushes of a store over a disk in memory: one is open at a time, and what each device call of a flush leaves that
+//! fails or is the last one before a crash.
 
 ghost use Rattle.std.specs.Prelude.{List};
 ghost use Rattle.store_model.specs.Holds.{Hold};
@@ -176,8 +176,8 @@ fn ends(alloc: Global, what: Upset, end: End, place: Place) -> Result<bool, Memo
     Ok(same && images_show(alloc, &disk, place)?)
 }
 
-// The opening makes 25 calls: both slots are synced, measured and read, the segment is synced and read in two, and the eight files
-// from the next one on are synced and measured.
+// The opening makes 25 calls: both slots are synced, measured and read, the segment is synced and read in two, and the
+// eight files from the next one on are synced and measured.
 const OPENING: u64 = 25;
 
 // What a flush answers that fails, and then the next one.
@@ -185,8 +185,8 @@ const FAILS: End = (Round::Refused(Refusal::Fault), Some(1));
 
 const ENDS: End = (Round::Did { blocks: 1, rows: 2 }, None);
 
-// A flush makes five calls for its two files, one for the block's piece, one that makes the block last, and six for the list, the
-// last but one of which writes the byte with which the list counts.
+// A flush makes five calls for its two files, one for the block's piece, one that makes the block last, and six for
+// the list, the last but one of which writes the byte with which the list counts.
 #[test]
 fn a_flush_that_is_stopped_keeps_the_push(rt: HostRuntime) -> Result<(), Fail> {
     let alloc = rt.alloc();

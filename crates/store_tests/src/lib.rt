@@ -1,4 +1,9 @@
 //! Tests of the crates that keep the store's rows and its state, by their public calls alone.
+//!
+//! - Opening: `opening`, `blocks` (a listed block that is malformed). Running: `pushes`, `flushing`, `compacting`,
+//!   `frames` (the page cache).
+//! - Without a disk: `live` (rows in memory), `lists` (what commits make of the list).
+//! - `store` plays calls on a store over a disk in memory, for the others.
 #![tactic(auto)]
 
 #[cfg(test)]

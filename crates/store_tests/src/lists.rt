@@ -1,5 +1,5 @@
-//! What the commits of flushes and compactions make of a store's list, and which blocks are joined, against lists that were worked out by
-//! hand.
+//! What the commits of flushes and compactions make of a store's list, and which blocks are joined, against lists that
+//! were worked out by hand.
 
 use block_list::{BlockRef, SegmentRef};
 use span_types::Memory;
@@ -20,7 +20,8 @@ fn is_list(listing: &Listing, blocks: &[BlockRef], segments: &[(u32, u64)], loos
         && listing.loose.as_slice() == loose
 }
 
-// The list after the commit of a flush at the length 9 of the history, over three segments, of which the pushes from this number on wait.
+// The list after the commit of a flush at the length 9 of the history, over three segments, of which the pushes from
+// this number on wait.
 fn flushed(alloc: Global, floor: u64) -> Result<Listing, Memory> {
     let mut next = Listing::with_room(alloc, 1, 4, 3)?;
     let segments = [

@@ -1,5 +1,5 @@
-//! Stores that are opened on bytes which were worked out by hand: lists whose numbers are spent, closed gates, loose files, and new
-//! stores that are stopped.
+//! Stores that are opened on bytes which were worked out by hand: lists whose numbers are spent, closed gates, loose
+//! files, and new stores that are stopped.
 
 use crate::store::{Answer, Step, counted, first_answer, played, pushes_in};
 use block_list::load;
@@ -10,8 +10,8 @@ use std::test::Fail;
 use store_core::OpenError;
 use store_state::PushError;
 
-// The slot 0 of a new store: the next file is 3 (byte 6), the floor 0 (byte 10), and the segment in file 2 begins with the number
-// 0 (byte 34).
+// The slot 0 of a new store: the next file is 3 (byte 6), the floor 0 (byte 10), and the segment in file 2 begins with
+// the number 0 (byte 34).
 const NEW_STORE: [u8; 42] = [
     1, 0x54, 0x53, 0x4c, 0x31, 0, 3, 0, 0, 0, 0, 0, 0, 0, 0, 0, 0, 0, 1, 0, 0, 0, 0, 0, 0, 0, 0, 0,
     0, 0, 2, 0, 0, 0, 0, 0, 0, 0, 0, 0, 0, 0,
@@ -87,7 +87,7 @@ fn the_last_number_is_given_once(rt: HostRuntime) -> Result<(), Fail> {
     Ok(())
 }
 
-// A segment with two records without spans, whose gates are these: the last one stands behind them.
+// A segment with two records without spans, whose gates are these: the last one stands after them.
 fn gated(gates: [u8; 3]) -> [u8; 38] {
     [
         1, gates[0], 9, 0, 0, 0, 0, 0, 0, 0, 0, 0, 0, 0, 0, 0, 0, 0, 0, gates[1], 9, 0, 0, 0, 0, 0,

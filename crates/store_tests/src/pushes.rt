@@ -1,4 +1,5 @@
-//! What pushes and looks answer, what each failed call of a push's device leaves, and what is found when the store is opened again.
+//! What pushes and looks answer, what each failed call of a push's device leaves, and what is found when the store is
+//! opened again.
 
 use crate::store::{Answer, Step, Upset, counted, played, played_upset, pushes_in};
 use disk_model::MemDisk;
@@ -10,7 +11,8 @@ use store_state::PushError;
 #[test]
 fn acknowledged_pushes_are_found_again(rt: HostRuntime) {
     let alloc = rt.alloc();
-    // The steps of a store between an opening and its end: of looks that aren't given back each has the least number that is free.
+    // The steps of a store between an opening and its end: of looks that aren't given back each has the least number
+    // that is free.
     let sessions: [[Step; 4]; 3] = [
         [
             show(0, 0, 0),
@@ -44,8 +46,8 @@ fn show(pin: u64, as_of: u64, rows: usize) -> Step {
     Step::Shows { pin, as_of, rows }
 }
 
-// Two pushes of one span to a new store that is upset; then so many rows are held, a look is of so many pushes, and so many are found
-// on the disk.
+// Two pushes of one span to a new store that is upset; then so many rows are held, a look is of so many pushes, and so
+// many are found on the disk.
 fn answers_are(alloc: Global, what: Upset, answers: [Answer; 2], counts: [u64; 3]) -> bool {
     let steps = [
         Step::Another(answers[0]),
@@ -64,8 +66,8 @@ fn a_push_makes_four_calls_and_a_failed_one_is_the_last(rt: HostRuntime) {
     let alloc = rt.alloc();
     let fault = Err(PushError::Fault);
     let refused = Err(PushError::ReadOnly { faults: 1 });
-    // The call behind the opening that fails, what both pushes answer, and what is held, shown and found: the last call of a push only
-    // makes last what was written.
+    // The call after the opening that fails, what both pushes answer, and what is held, shown and found: the last call
+    // of a push only makes last what was written.
     let rows: [(Upset, [Answer; 2], [u64; 3]); 9] = [
         (Upset::Nothing, [Ok(0), Ok(1)], [2, 2, 2]),
         (Upset::Fails(1), [fault, refused], [0, 0, 0]),
@@ -82,8 +84,9 @@ fn a_push_makes_four_calls_and_a_failed_one_is_the_last(rt: HostRuntime) {
     }
 }
 
-// Whether the images have the push behind so many others: what was synced last, what is held, one with ones where a crash leaves a
-// byte open, and one with zeros there. Each other pick has what one of these has, and each is written on.
+// Whether the images have the push after so many others: what was synced last, what is held, one with ones where a
+// crash leaves a byte open, and one with zeros there. Each other pick has what one of these has, and each is written
+// on.
 fn images_have(alloc: Global, disk: &MemDisk, before: u64, has: [bool; 4]) -> Result<bool, Memory> {
     let mut same = true;
     for (pick, has) in (0u64..4).zip(has) {
@@ -127,8 +130,8 @@ fn images_are(
 #[test]
 fn a_push_that_is_stopped_is_stored_whole_or_not(rt: HostRuntime) -> Result<(), Fail> {
     let alloc = rt.alloc();
-    // What goes wrong, whether the push is acknowledged, and which images have it: the third call writes one byte, with which the
-    // record counts. A write that fails leaves its bytes open, and one behind the stop isn't made.
+    // What goes wrong, whether the push is acknowledged, and which images have it: the third call writes one byte,
+    // with which the record counts. A write that fails leaves its bytes open, and one after the stop isn't made.
     let rows: [(Upset, bool, [bool; 4]); 9] = [
         (Upset::Stops(0), false, [false; 4]),
         (Upset::Stops(1), false, [false; 4]),

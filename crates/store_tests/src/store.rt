@@ -1,5 +1,5 @@
-//! Stores over a disk in memory, played call by call: each is opened, played and closed in one function, and no other one holds a
-//! store.
+//! Stores over a disk in memory, played call by call: each is opened, played and closed in one function, and no other
+//! one holds a store.
 
 use crate::live::{another, are_at, both, many};
 use disk_model::{Device, MemDisk};
@@ -29,7 +29,8 @@ pub(crate) enum Step {
     Shows { pin: u64, as_of: u64, rows: usize },
 }
 
-// The places of the rows of several pushes, in the order in which they came: the first one has two spans, each other one has one.
+// The places of the rows of several pushes, in the order in which they came: the first one has two spans, each other
+// one has one.
 const PLACES: [(u64, u32); 4] = [(0, 0), (0, 1), (1, 0), (2, 0)];
 
 fn push<P: LookPort>(port: &mut P, batch: Result<Batch, Memory>) -> Answer {
@@ -103,7 +104,7 @@ pub(crate) enum Upset {
     Nothing,
     // The call of that number fails, counted from 1.
     Fails(u64),
-    // All calls behind so many fail.
+    // All calls after so many fail.
     Stops(u64),
 }
 
@@ -177,7 +178,8 @@ pub(crate) fn counted<D: Device>(alloc: Global, disk: D) -> (Option<u64>, D) {
     }
 }
 
-// What a push of a batch without spans is answered by the store that a disk holds, or why it isn't opened; and the disk.
+// What a push of a batch without spans is answered by the store that a disk holds, or why it isn't opened; and the
+// disk.
 pub(crate) fn first_answer<D: Device>(alloc: Global, disk: D) -> (Result<Answer, OpenError>, D) {
     match Core::open_store(alloc, disk, 7) {
         Ok(core) => {

@@ -1,4 +1,8 @@
-//! Laws of images and the histories for which they stand.
+//! Theorems about images and the histories for which they stand: an image stands for one, but for what can't be told
+//! apart.
+//!
+//! Each function has an empty body: its contract is the statement, and its proof stands in `proofs/laws/`. Nothing
+//! calls them; proofs of `headline` cite the lemmas.
 
 ghost use Rattle.std.specs.Prelude.{◌≡◌, ◌⊎◌, ℕ, List, Option};
 ghost use Rattle.span_types.specs.declared.spans.Row.{Row};
@@ -14,9 +18,9 @@ pub fn one_stored_list_of_rows()
         → ImageStores image others number → (rows ≡ others) × (count ≡ number) }
 {}
 
-/// An image stands for one history, as far as histories can be told apart: those for which it stands are alike, and it stands for
-/// each that is alike to one of them. Nothing more can be said: in which order the rows came, and which of them a history has as its
-/// base, no image tells.
+/// An image stands for one history, as far as histories can be told apart: those for which it stands are alike, and it
+/// stands for each that is alike to one of them. Nothing more can be said: in which order the rows came, and which of
+/// them a history has as its base, no image tells.
 pub fn one_stored_history()
     ensures alike { (image : Image) (h g : History) → ImageStandsFor image h → ImageStandsFor image g → AreAlike h g }
     ensures whole { (image : Image) (h g : History) → ImageStandsFor image h → AreAlike h g → ImageStandsFor image g }
@@ -28,8 +32,8 @@ pub fn no_other_history()
         → ImageStandsFor image g → AreAlike h g ⊎ AreAlike (with_entry unsure h) g }
 {}
 
-/// Alike histories stay alike, whatever entries are added to both. Rows that are all the first occurrences of the one, in order, are
-/// those of the other.
+/// Alike histories stay alike, whatever entries are added to both. Rows that are all the first occurrences of the one,
+/// in order, are those of the other.
 pub fn alike_histories_stay_alike()
     ensures grown { (h g : History) (more : List Entry) → AreAlike h g → AreAlike (grown h more) (grown g more) }
     ensures firsts { (h g : History) (rows : List Row) → AreAlike h g → AreFirstIn h rows → AreFirstIn g rows }

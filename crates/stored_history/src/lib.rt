@@ -1,5 +1,5 @@
-//! An image of the disk stands for one history: two for which it stands are alike, and alike histories are told apart by nothing
-//! that is added later.
+//! An image of the disk stands for one history: two for which it stands are alike, and alike histories are told apart
+//! by nothing that is added later.
 //!
 //! Nothing here runs: each function is a law, and its contract is the law.
 #![tactic(auto)]

@@ -1,4 +1,4 @@
-//! Columns whose values are kept.
+//! Columns whose values are kept: those of a fixed width.
 
 ghost use Rattle.std.specs.Prelude.{ℕ, IfSome, Result};
 ghost use Rattle.span_fields.specs.Decodings.{kind_at, status_at, trace_id_at};

@@ -1,4 +1,4 @@
-//! The kinds of values that are jumped over.
+//! The kinds of values that are jumped over: texts, numbers, references, parents, resources and scopes.
 
 ghost use Rattle.std.specs.Prelude.{ℕ, List, IsTrue};
 ghost use Rattle.std.specs.Str.{bytes_eq};

@@ -1,7 +1,8 @@
-//! The first columns of a stripe, where it can be read.
+//! The first columns of a stripe, if it can be read.
 //!
-//! The entry point is `glance`; `specs/Glances.antt` says what it tells. `leaps` and `kinds` jump over values, `keeps` keeps those of
-//! a column, and `rows` puts the columns together.
+//! The entry point is `glance`, in `stripe`; `specs/Glances.antt` says what it tells, which is a `glances::Glance`.
+//! `leaps` and `kinds` jump over values, `keeps` keeps those of a column, and `rows` puts the columns together.
+//! `column_scan` picks traces by it without making rows.
 #![tactic(auto)]
 
 mod glances;

@@ -1,4 +1,4 @@
-//! The rows of a stripe, up to the column of statuses.
+//! The rows of a stripe up to the column of statuses, bytes to columns; no row is made.
 
 ghost use Rattle.std.specs.Prelude.{◌≤◌, Bool, true, ℕ, List, IfSome, IsTrue};
 ghost use Rattle.std.specs.Str.{bytes_eq};

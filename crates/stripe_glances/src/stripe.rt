@@ -1,4 +1,4 @@
-//! A whole stripe.
+//! The entry point: a whole stripe's bytes to its first columns.
 
 ghost use Rattle.std.specs.Prelude.{Bool, IfSome};
 ghost use Rattle.block_stripes.specs.StripeReadings.{stripe_at};
@@ -9,8 +9,9 @@ use crate::rows::content;
 use byte_fields::Reader;
 use std::alloc::Global;
 
-/// The columns of a fixed width of a stripe, in either form. Texts, resources, scopes and the columns between are jumped over, and what
-/// stands after the statuses isn't looked at. So nothing is said of a stripe that is malformed, and None says nothing.
+/// The columns of a fixed width of a stripe, in either form. Texts, resources, scopes and the columns between are
+/// jumped over, and what stands after the statuses isn't looked at. So nothing is said of a stripe that is malformed,
+/// and None says nothing.
 pub fn glance(alloc: Global, bytes: &[u8]) -> Option<Glance>
     ensures { IfSome result (λ g. (extended : Bool) → TellsIfRead IsGlance (stripe_at extended bytes.now) g) }
 {

@@ -1,4 +1,5 @@
-//! Passing over attributes.
+//! Passing over attributes, whose keys must differ within a list: each text is stamped with the last list that had it
+//! as a key.
 
 ghost use Rattle.std.specs.Prelude.{◌≡◌, ◌<◌, ◌+◌, List, [], ℕ, IfSome, IsTrue, length};
 ghost use Rattle.span_types.specs.declared.attrs.Attr.{Attr};
@@ -24,7 +25,7 @@ pub fn pass_reference(fields: &mut Fields, texts: usize) -> Option<usize>
     Some(number)
 }
 
-// A value.
+// A value: by its tag it refers to a text of the table, or stands there in full.
 fn pass_value(fields: &mut Fields, texts: usize) -> bool
     ensures { IsTrue result → (table : List (List ℕ)) → length table ≡ texts → Passes (value_with table fields.old) fields.new }
 {
@@ -74,8 +75,8 @@ fn pass_each(fields: &mut Fields, stamps: &mut [u32], list: u32, count: u64) -> 
     true
 }
 
-/// A list of attributes, no two of which have one key. `stamps` has one number for each text of the table, which is below that of
-/// this list. False says nothing.
+/// A list of attributes, no two of which have one key. `stamps` has one number for each text of the table, which is
+/// below that of this list. False says nothing.
 #[tactic(auto, unfolding(block_columns::specs::ColumnReadings::counted_at))]
 pub fn pass_attrs(fields: &mut Fields, stamps: &mut [u32], list: u32) -> bool
     requires fresh { AreBefore list stamps.old }

@@ -1,4 +1,4 @@
-//! All columns of a stripe.
+//! The columns of a stripe in their order, and which of them a sketch keeps.
 
 ghost use Rattle.std.specs.Prelude.{◌≡◌, IfSome, true};
 ghost use Rattle.block_stripes.specs.StripeReadings.{cells_at};

@@ -1,4 +1,4 @@
-//! Columns that are passed over, or kept.
+//! Columns that are passed over, or kept; and how several are gone over, one after another.
 
 ghost use Rattle.std.specs.Prelude.{◌≡◌, ℕ, List, IfSome, Result};
 ghost use Rattle.block_columns.specs.ColumnReadings.{Spot, both_at, column_at, counted_at, only_if_at, owners_at};

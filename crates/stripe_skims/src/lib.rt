@@ -1,7 +1,13 @@
-//! Passing over a stripe without making its rows, where it is sure that it can be read.
+//! Passing over a stripe without making its rows, if it is sure that it can be read.
 //!
-//! The entry point is `skim`, which tells some columns of a whole stripe (`sketches`, by `cells`, `columns`). `items` and `passes` go over
-//! single values, also for others that pass over some of a stripe's cells; `order` is the order of rows by what is told of them.
+//! - The entry point is `skim`, in `sketches`: some columns of a whole stripe. `cells` lists the columns, each of
+//!   which `columns` keeps or passes over.
+//! - For any that pass over a stripe: `walks` goes from its texts to its rows and leaves the columns to a [`Walk`], as
+//!   that of `stripe_traces`.
+//! - Single values: `items`, `passes` and `attributes` pass over values of a kind.
+//! - `order` is the order of rows by a sketch of them.
+//!
+//! `block_read` checks blocks by it.
 #![tactic(auto)]
 
 mod attributes;

@@ -1,4 +1,4 @@
-//! Passing over references, attributes, events and links.
+//! Passing over references, attributes, events and links: values that refer to a table of the stripe.
 
 ghost use Rattle.std.specs.Prelude.{◌≡◌, ◌+◌, ◌<◌, ◌≤◌, IfSome, IsTrue, length};
 ghost use Rattle.block_columns.specs.ColumnReadings.{reference_at};

@@ -1,4 +1,4 @@
-//! What is told of a stripe whose rows aren't made.
+//! The entry point: a stripe's bytes to a sketch of it, what is told of its rows, which aren't made.
 
 ghost use Rattle.std.specs.Prelude.{◌≡◌, IfSome};
 ghost use Rattle.block_stripes.specs.StripeReadings.{stripe_at};
@@ -10,7 +10,8 @@ use crate::walks::go_over;
 use span_types::{SpanId, SpanKind, StatusCode, TraceId};
 use std::alloc::Global;
 
-/// What is told of a stripe: of each row, in their order, the columns of a fixed width, and whether a row has events or links.
+/// What is told of a stripe: of each row, in their order, the columns of a fixed width, and whether a row has events
+/// or links.
 #[derive(Drop)]
 pub struct Sketch {
     /// The ids of the rows' traces.
@@ -29,8 +30,8 @@ pub struct Sketch {
     pub rich: bool,
 }
 
-/// What is told of a stripe, in form 1, or in form 2, which has events and links. None says nothing: the stripe is malformed, or
-/// memory was wanted. Memory is taken for texts, resources and scopes, and for what a sketch tells.
+/// What is told of a stripe, in form 1, or in form 2, which has events and links. None says nothing: the stripe is
+/// malformed, or memory ran out. Memory is taken for texts, resources and scopes, and for what a sketch tells.
 pub fn skim(alloc: Global, bytes: &[u8], extended: bool) -> Option<Sketch>
     ensures { IfSome result (λ sketch. SketchesAll (stripe_at extended bytes.now) sketch) }
 {

@@ -1,4 +1,4 @@
-//! Going over a stripe, of whose columns something is told.
+//! Going over a stripe from its texts to its rows, whatever is told of the columns: that is up to a [`Walk`].
 
 ghost use Rattle.std.specs.Prelude.{◌≡◌, ◌+◌, ◌≤◌, ◌<◌, ◌^◌, IfSome, List, Ok, length, take, true};
 ghost use Rattle.span_types.specs.declared.spans.Row.{Row};
@@ -39,8 +39,8 @@ pub trait Walk {
             (record { list = scopes.entry.list; values = scopes.entry.values.now }) count fields.old) seen fields.new) };
 }
 
-/// What is told of a stripe, in form 1, or in form 2, which has events and links; in whatever order its rows are. None says nothing: the
-/// stripe is malformed, or memory was wanted. Texts, resources and scopes are made, once a stripe.
+/// What is told of a stripe, in form 1, or in form 2, which has events and links; in whatever order its rows are. None
+/// says nothing: the stripe is malformed, or memory ran out. Texts, resources and scopes are made, once a stripe.
 pub fn go_over<W: Walk>(alloc: Global, bytes: &[u8], extended: bool, walk: &W) -> Option<W::Seen>
     ensures { IfSome result (λ seen. TellsAll (W.tells walk.now) (unordered_at extended bytes.now) seen) }
 {

@@ -1,4 +1,4 @@
--- Private mechanism: some values of a column.
+-- Private mechanism: those values of a column whose rows are marked.
 use Rattle.std.specs.Prelude.{◌≡◌, List, [], ◌∷◌, Bool, if◌then◌else◌}
 
 -- those values that are wanted, where the first list says which

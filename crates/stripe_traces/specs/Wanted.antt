@@ -1,4 +1,4 @@
--- The rows of some traces.
+-- Those of some rows that are of wanted traces, and the trace of the last of all rows.
 use Rattle.std.specs.Prelude.{◌≡◌, List, [], ◌∷◌, Bool, Option, None, Some, filter}
 use Rattle.std.specs.List.{AllPairs, list_any}
 use Rattle.std.specs.Ordering.{is_eq}

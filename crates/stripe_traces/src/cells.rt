@@ -1,4 +1,4 @@
-//! The columns of a stripe, of which the rows of wanted traces are made.
+//! The columns of a stripe, of which the rows of wanted traces are made: how a walk over a stripe gives these rows.
 
 ghost use Rattle.stripe_traces.specs.Wanted.{AreInOrder, HasTraces};
 

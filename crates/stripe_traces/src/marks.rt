@@ -1,4 +1,4 @@
-//! Which rows are of wanted traces.
+//! Which rows are of wanted traces, by the ids of all rows and those of the traces, both in ascending order.
 
 ghost use Rattle.std.specs.Prelude.{◌≡◌, IfSome, filter, map};
 ghost use Rattle.stripe_traces.specs.Wanted.{AreInOrder, is_one_of};
@@ -15,7 +15,7 @@ pub struct Marks {
     pub traces: Vec<TraceId>,
 }
 
-/// Marks the rows that are of one of these traces, whose ids ascend, by the traces of all rows. None if memory was wanted.
+/// Marks the rows that are of one of these traces, whose ids ascend, by the traces of all rows. None if memory ran out.
 pub fn mark_rows(alloc: Global, traces: &[TraceId], ids: &[TraceId]) -> Option<Marks>
     requires { AreInOrder ids.now }
     ensures wanted { IfSome result (λ marks. marks.wanted.items ≡ map (is_one_of ids.now) traces.now) }

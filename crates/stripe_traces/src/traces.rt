@@ -1,4 +1,4 @@
-//! The rows of some traces in a stripe.
+//! The entry point: a stripe's bytes to its rows of some traces.
 
 ghost use Rattle.std.specs.Prelude.{◌≡◌, IfSome, List, Ok};
 ghost use Rattle.span_types.specs.declared.spans.Row.{Row as AnyRow};
@@ -20,8 +20,9 @@ pub struct StripeTraces {
     pub last: Option<TraceId>,
 }
 
-/// The rows of these traces in a stripe, in form 1, or in form 2, which has events and links. Their ids ascend, each once. No other
-/// row is made. None says nothing: the stripe is malformed, is another one than `entry` tells of, or memory was wanted.
+/// The rows of these traces in a stripe, in form 1, or in form 2, which has events and links. Their ids ascend, each
+/// once. No other row is made. None says nothing: the stripe is malformed, is another one than `entry` tells of, or
+/// memory ran out.
 pub fn traces_of_stripe(
     alloc: Global,
     bytes: &[u8],

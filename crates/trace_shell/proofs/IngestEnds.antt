@@ -24,7 +24,7 @@ use Rattle.trace_shell.proofs.TurnLemmas.{appended, cut_off, ends_all_read, same
 
 -- ---- what stands written
 
--- These replies stand written behind `before`, as far as that went.
+-- These replies stand written after `before`, as far as that went.
 abbrev Stands : List ℕ → List Reply → Option (List ℕ) → Tally → Option Ending → Type 0
 Stands before replies taken tally None =
     (taken ≡ Some (before ++ reply_texts replies)) × (tally.refused ≡ list_any is_refusal replies) × (tally.starved ≡ list_any is_for_memory replies)

@@ -36,7 +36,7 @@ reads_on text pushed left_old left reader_old reader line at next took = record 
   took = took_more text left_old left 0 reader_old.taken reader.taken at.took took;
 }
 
--- The run goes on behind it, or ends.
+-- The run goes on after it, or ends.
 reads_turn : (text : List ℕ) (pushed : List (List ℕ)) (left : Option (List ℕ)) (reader : Reader) (o : Option Ending) → IfSome o (λ e. (e ≡ WriteFault) ⊎ (e ≡ Starved))
     → IsReadingAt text pushed left reader → ReadOn (turn_of o) text pushed left reader
 reads_turn text pushed left reader None ends at = at
@@ -137,7 +137,7 @@ pub reads_failed : (text : List ℕ) (pushed : List (List ℕ)) (left_old left :
 reads_failed text pushed left_old left reader_old reader at to_read waiting =
     (lines at.rest, at.lines_are, all_ended text at.front reader left at.rest at.text_is to_read waiting)
 
--- Memory was wanted for a line.
+-- Memory ran out for a line.
 pub reads_starved : (text : List ℕ) (pushed : List (List ℕ)) (left_old left : Option (List ℕ)) (reader_old : Reader) → IsReadingAt text pushed left_old reader_old
     → HasReadTo (Some Starved) text pushed left
 reads_starved text pushed left_old left reader_old at = (lines at.rest, at.lines_are, tt)

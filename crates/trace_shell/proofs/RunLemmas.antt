@@ -164,7 +164,7 @@ pub untouched_recovers : {D : Type 0} (g : Ghosts D) (only_now : (disk : D) (ima
     → Recovers g disk disk (unopened e)
 untouched_recovers g only_now disk e = unopened_recovers g disk disk e (λ image left. (image, only_now disk image left, keeps_same image))
 
--- Memory was wanted for the words.
+-- Memory ran out for the words.
 pub starved_runs : (told : Bool) (words : List (List ℕ)) (old : Edges) → IsRunOf told words (unopened Starved) old old
 starved_runs told words old = record {
   words_fit = fits (fault_of words_app words);

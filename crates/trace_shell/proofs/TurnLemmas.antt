@@ -345,7 +345,7 @@ failed_at told text before left_old left taken to_tell reader_old reader tally i
     stops told text before left_old taken to_tell reader_old tally ReadFault left items replies blamed at
     (at.written, all_ended text at.progress.front reader left at.rest at.progress.text_is to_read waiting)
 
--- Memory was wanted for a line.
+-- Memory ran out for a line.
 pub starved_at : (told : Option (List ℕ)) (text before : List ℕ) (left_old left taken to_tell : Option (List ℕ)) (reader : Reader) (tally : Tally)
     (items : List Item) (replies : List Reply) (blamed : List (List ℕ)) → IsAt told text before left_old taken to_tell reader tally items replies blamed
     → Came told text before left taken to_tell Starved items replies blamed

@@ -1,5 +1,6 @@
-//! An ingest: the lines of a source are pushed in order over a store's core, as requests in OTLP/JSON. The store is kept small in
-//! between, and flushed, compacted and rid of its loose files at the end. Each reply is written before anything else is asked.
+//! An ingest: the lines of a source are pushed in order over a store's core, as requests in OTLP/JSON. The store is
+//! kept small in between, and flushed, compacted and rid of its loose files at the end. Each reply is written before
+//! anything else is asked.
 
 ghost use Rattle.std.specs.Prelude.{◌≡◌, ◌⊎◌, ◌≤◌, ◌<◌, ◌-◌, ◌++◌, ℕ, List, [], ◌∷◌, Bool, true, false, Option, Some, None, Ok, IfSome, IfOk, IfErr, if◌then◌else◌};
 ghost use Rattle.span_types.specs.Faults.{Rose};
@@ -45,9 +46,9 @@ enum After {
 }
 
 /// Pushes the lines of the source in order to a core. Before the first line and after each push all rows are cut and
-/// flushed where 131,072 rows or more are held outside of blocks; and at the end all are, blocks are compacted as long as any are
-/// joined, and loose files are emptied. Each reply is written before anything else is asked or read. The clock is asked once for
-/// each line that has bytes.
+/// flushed where 131,072 rows or more are held outside of blocks; and at the end all are, blocks are compacted as long
+/// as any are joined, and loose files are emptied. Each reply is written before anything else is asked or read. The
+/// clock is asked once for each line that has bytes.
 pub(crate) fn ingest<S: Source, K: Sink, D: Device, C: Clock, G: Gate>(
     alloc: Global,
     source: &mut S,
@@ -78,8 +79,8 @@ pub(crate) fn ingest<S: Source, K: Sink, D: Device, C: Clock, G: Gate>(
     }
 }
 
-// Pushes all lines of the source, and keeps the store small after each. Gives how the run ends, where it ends before they are all
-// pushed.
+// Pushes all lines of the source, and keeps the store small after each. Gives how the run ends, where it ends before
+// they are all pushed.
 fn push_all<S: Source, K: Sink, D: Device, C: Clock, G: Gate>(
     alloc: Global,
     source: &mut S,
@@ -178,7 +179,8 @@ fn go_on(ended: Option<Ending>) -> After
     }
 }
 
-// Pushes a line, writes the reply and keeps the store small. A line without bytes gets no reply, and nothing is done for it.
+// Pushes a line, writes the reply and keeps the store small. A line without bytes gets no reply, and nothing is done
+// for it.
 fn push_line<K: Sink, D: Device, C: Clock, G: Gate>(
     alloc: Global,
     tally: &mut Tally,

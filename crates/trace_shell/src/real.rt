@@ -1,4 +1,4 @@
-//! The adapters over the real standard streams. They tell none of their bytes: what a terminal, a pipe or a file gives
+//! The adapters over the real standard streams. They show none of their bytes: what a terminal, a pipe or a file gives
 //! and takes can't be proved.
 
 ghost use Rattle.std.specs.Prelude.{◌≡◌, ◌≤◌, ℕ, List, None, IfOk, OnOk, OnErr, is_some, length};

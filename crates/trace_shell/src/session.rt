@@ -1,5 +1,5 @@
-//! A session: the lines of a source are answered in order over a store's port, each reply written before the next line is
-//! read.
+//! A session: the lines of a source are answered in order over a store's port, each reply written before the next line
+//! is read.
 
 ghost use Rattle.std.specs.Prelude.{false, ◌≡◌, ◌⊎◌, ◌<◌, ◌≤◌, ℕ, List, [], ◌∷◌, ◌++◌, Option, Some, None, IfSome, IfNone, length};
 ghost use Rattle.span_types.specs.Faults.{Rose};
@@ -51,7 +51,7 @@ impl Tally {
         }
     }
 
-    // Adds a reply.
+    // A session that had a refusal ends with another status, so each reply is looked at once.
     fn add(&mut self, reply: &Reply)
         ensures { self.new ≡ tally_with self.old reply.now }
     {
@@ -96,8 +96,8 @@ fn is_for_memory(reply: &Reply) -> bool
     }
 }
 
-/// Answers the lines of the source in order over a store's port, and writes each reply before it reads the next line. The clock
-/// is asked once for each line that has bytes.
+/// Answers the lines of the source in order over a store's port, and writes each reply before it reads the next line.
+/// The clock is asked once for each line that has bytes.
 pub(crate) fn session<S: Source, K: Sink, Q: Port, C: Clock, P: PatternMaker, G: Gate>(
     alloc: Global,
     source: &mut S,

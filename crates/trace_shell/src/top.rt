@@ -1,4 +1,5 @@
-//! The top call.
+//! The top call: what `main` runs. It reads the words, does what they say, and ends with a status; the disk is handed
+//! back.
 
 ghost use Rattle.std.specs.Prelude.{true, false, ◌≡◌, ◌≢◌, ◌⊎◌, List, [], map, string_bytes, ℕ, IsTrue};
 ghost use Rattle.std.specs.Process.{exit_status};
@@ -41,10 +42,11 @@ pub fn exit_code<D: Drop>(ended: Ended<D>) -> ExitCode
     ExitCode::from(status)
 }
 
-/// Does what the words of the command line say on the store of the disk: `session` answers each line of the source, `ingest`
-/// pushes each and keeps the store up, `trace ID` answers the one line `trace ID`, and `search QUERY` with its options the one
-/// line that these make. The store is opened at the clock's first moment, in nanoseconds, and a new one is made on a disk that has
-/// none; the clock is then asked once for each line that has bytes. The disk is handed back as the store left it. No right to wait is needed.
+/// Does what the words of the command line say on the store of the disk: `session` answers each line of the source,
+/// `ingest` pushes each and keeps the store up, `trace ID` answers the one line `trace ID`, and `search QUERY` with
+/// its options the one line that these make. The store is opened at the clock's first moment, in nanoseconds, and a
+/// new one is made on a disk that has none; the clock is then asked once for each line that has bytes. The disk is
+/// handed back as the store left it. No right to wait is needed.
 pub fn run_alone<
     R: Threads + Sync,
     S: Source,
@@ -64,16 +66,16 @@ pub fn run_alone<
     patterns: &mut P,
     gate: &G,
 ) -> Ended<D>
-    // What the words ask was done, the maker refused what the outcome says, and the status tells how it ended. Of a store that
-    // lists blocks it isn't said what queries tell.
+    // What the words ask was done, the maker refused what the outcome says, and the status tells how it ended. Of a
+    // store that lists blocks it isn't said what queries tell.
     ensures ran { (o : Outcome) × RefusesOnly P.makes patterns.old patterns.new o.refused
         × IsRunOf false (map string_bytes words.now) o
         (edges S.left S.faults K.taken K.faults C.moments D.Device.own source.old sink.old clock.old disk)
         (edges S.left S.faults K.taken K.faults C.moments D.Device.own source.new sink.new clock.new result.disk)
         × (result.status ≡ status_of o.ending) }
-    // Over a disk whose bytes are told and are a store's: it was done from what they store on, queries tell of all that was pushed,
-    // wherever it lies, and what is stored as the disk is handed back, or whenever the run is stopped, holds every push that was
-    // accepted by then.
+    // Over a disk whose bytes are shown and are a store's: it was done from what they store on, queries tell of all
+    // that was pushed, wherever it lies, and what is stored as the disk is handed back, or whenever the run is
+    // stopped, holds every push that was accepted by then.
     ensures recovers { IsTrue (D.tells disk) → IsSoundImage (D.held disk)
         → (o : Outcome) × RefusesOnly P.makes patterns.old patterns.new o.refused
         × IsRunOf true (map string_bytes words.now) o
@@ -84,8 +86,8 @@ pub fn run_alone<
     ensures nothing_done { fault_of words_app (map string_bytes words.now) ≢ []
         → (source.new ≡ source.old) × (sink.new ≡ sink.old) × (result.disk ≡ disk) × (clock.new ≡ clock.old)
         × (patterns.new ≡ patterns.old) }
-    // Bytes that break, and so aren't opened, are left alone unless a call of the disk failed as they were read: at most a
-    // vacant slot of the list is cut to its first byte.
+    // Bytes that break, and so aren't opened, are left alone unless a call of the disk failed as they were read: at
+    // most a vacant slot of the list is cut to its first byte.
     ensures left { IsTrue (D.tells disk) → (file at : ℕ) → StoreBreaks (D.held disk) file at → result.status ≢ 4
         → LeavesAlone D.Device.own disk result.disk }
     // Where the disk failed as the store was opened, or its bytes broke, nothing was taken of the source.
@@ -121,16 +123,16 @@ pub fn run<
     patterns: &mut P,
     gate: &G,
 ) -> Ended<D>
-    // What the words ask was done, the maker refused what the outcome says, and the status tells how it ended. Of a store that
-    // lists blocks it isn't said what queries tell.
+    // What the words ask was done, the maker refused what the outcome says, and the status tells how it ended. Of a
+    // store that lists blocks it isn't said what queries tell.
     ensures ran { (o : Outcome) × RefusesOnly P.makes patterns.old patterns.new o.refused
         × IsRunOf false (map string_bytes words.now) o
         (edges S.left S.faults K.taken K.faults C.moments D.Device.own source.old sink.old clock.old disk)
         (edges S.left S.faults K.taken K.faults C.moments D.Device.own source.new sink.new clock.new result.disk)
         × (result.status ≡ status_of o.ending) }
-    // Over a disk whose bytes are told and are a store's: it was done from what they store on, queries tell of all that was pushed,
-    // wherever it lies, and what is stored as the disk is handed back, or whenever the run is stopped, holds every push that was
-    // accepted by then.
+    // Over a disk whose bytes are shown and are a store's: it was done from what they store on, queries tell of all
+    // that was pushed, wherever it lies, and what is stored as the disk is handed back, or whenever the run is
+    // stopped, holds every push that was accepted by then.
     ensures recovers { IsTrue (D.tells disk) → IsSoundImage (D.held disk)
         → (o : Outcome) × RefusesOnly P.makes patterns.old patterns.new o.refused
         × IsRunOf true (map string_bytes words.now) o
@@ -141,8 +143,8 @@ pub fn run<
     ensures nothing_done { fault_of words_app (map string_bytes words.now) ≢ []
         → (source.new ≡ source.old) × (sink.new ≡ sink.old) × (result.disk ≡ disk) × (clock.new ≡ clock.old)
         × (patterns.new ≡ patterns.old) }
-    // Bytes that break, and so aren't opened, are left alone unless a call of the disk failed as they were read: at most a
-    // vacant slot of the list is cut to its first byte.
+    // Bytes that break, and so aren't opened, are left alone unless a call of the disk failed as they were read: at
+    // most a vacant slot of the list is cut to its first byte.
     ensures left { IsTrue (D.tells disk) → (file at : ℕ) → StoreBreaks (D.held disk) file at → result.status ≢ 4
         → LeavesAlone D.Device.own disk result.disk }
     // Where the disk failed as the store was opened, or its bytes broke, nothing was taken of the source.

@@ -1,4 +1,4 @@
-//! How many moments are in each bucket.
+//! Counting: how many moments are in each bucket.
 
 ghost use Rattle.std.specs.Prelude.{◌≡◌, ◌≤◌, ◌<◌, ℕ, IfOk, length, count_by, slice_index};
 ghost use Rattle.traceql_metrics.specs.Series.{bucket_count, most_buckets, is_in_bucket};

@@ -1,4 +1,4 @@
-//! Spansets in order of their values of `by`.
+//! Spansets in order of their values of `by`, so that those of one series are neighbours.
 
 ghost use Rattle.std.specs.Prelude.{◌≡◌, ◌++◌, IfOk, OnOk, filter};
 ghost use Rattle.std.specs.List.{dedup};

@@ -1,4 +1,4 @@
-//! The series of a metrics query.
+//! The series of a metrics query: from what a search found to counts. `client_run` calls it.
 
 ghost use Rattle.std.specs.Prelude.{◌≡◌, ◌≤◌, ◌<◌, ◌++◌, IfOk, OnOk, map};
 ghost use Rattle.std.specs.List.{flat_map};
@@ -12,9 +12,9 @@ use span_types::{Memory, TryCopy};
 use spanset_eval::{Hit, Results, Series, SeriesList};
 use std::alloc::Global;
 
-/// How many of the spans that were found begin in each step from a start to below an end: a series for each list of values
-/// of `by` under which one begins there. The one error is out of memory. The spansets are sorted once; else each span and
-/// each count is gone through a few times.
+/// How many of the spans that were found begin in each step from a start to below an end: a series for each list of
+/// values of `by` under which one begins there. The one error is out of memory. The spansets are sorted once; else
+/// each span and each count is gone through a few times.
 pub fn series(
     alloc: Global,
     results: &Results,

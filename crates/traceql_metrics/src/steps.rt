@@ -1,4 +1,4 @@
-//! TimeSteps of time.
+//! Steps of time, and how many buckets a range has.
 
 ghost use Rattle.std.specs.Prelude.{◌≡◌, ◌≤◌, ◌<◌};
 ghost use Rattle.traceql_metrics.specs.Series.{bucket_count, is_between};
@@ -6,7 +6,7 @@ ghost use Rattle.traceql_metrics.specs.Series.{bucket_count, is_between};
 /// The most buckets that a query may ask for.
 pub const MOST_BUCKETS: u64 = 1000;
 
-/// TimeSteps of one length, from a start to below an end. All are in nanoseconds.
+/// Steps of one length, from a start to below an end. All are in nanoseconds.
 #[derive(Clone, Copy)]
 pub(crate) struct TimeSteps {
     pub(crate) start: u64,

@@ -1,4 +1,4 @@
-//! What is told of counts.
+//! What a series tells of each bucket: a count, or a rate for a second as a fraction.
 
 ghost use Rattle.std.specs.Prelude.{◌≡◌, ◌<◌, IfOk};
 ghost use Rattle.std.specs.List.{AllZip};
@@ -12,7 +12,7 @@ use traceql_value::common_divisor;
 // A second, in nanoseconds.
 const SECOND: u128 = 1_000_000_000;
 
-/// What is told of each bucket.
+/// What is shown of each bucket.
 pub(crate) fn told_of(
     alloc: Global,
     counts: &[u64],
@@ -29,7 +29,7 @@ pub(crate) fn told_of(
     Ok(Counts::of(values))
 }
 
-// What is told of a bucket of so many spans.
+// What is shown of a bucket of so many spans.
 fn told(count: u64, step: u64, rate: bool) -> Count
     requires { 0 < step }
     ensures { IsCount rate step count result }

@@ -69,7 +69,7 @@ Close = One (at_sign (delimits delimiter.CloseParen))
 abbrev pub closed_view : ℕ × Unit {0} → Placed → ℕ × Unit {0} → Placed
 closed_view o e c = (o.0, e.1)
 
--- an expression and a closing parenthesis, behind an opening one
+-- an expression and a closing parenthesis, after an opening one
 abbrev pub rest_of_parens : ℕ × Unit {0} → Reader Placed
 rest_of_parens o = next r_whole (λ e. mapped (closed_view o e) close)
 
@@ -278,7 +278,7 @@ powered_from n a ts (rule.power {a = x} {b = y} {xs = xs} {ys = ys} at d k) = re
   });
 }
 
--- an item behind an expression of its level makes one
+-- an item after an expression of its level makes one
 join_rule : (l : Level) (n : ℕ) (a : Placed) (xs : List Token) (t : Token) (x : ℕ × ItemSign) (b : read.Item) (ys : List Token) (s : ItemSign) → x.1 ≡ s → Spells n (Grouped l) a xs → at_sign (read.item_sign_of l) t.at t.kind ≡ Some x → Side_of l x.0 s n b ys → Spells n (Grouped l) (read.join a b) (xs ++ (t ∷ ys))
 join_rule l n a xs t x b ys (item_sign.Operator op) is d h i =
     let w = marked_token (read.item_sign_of l) t x h in

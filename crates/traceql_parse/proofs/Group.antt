@@ -1,4 +1,4 @@
--- The laws of a head with items behind it, and of reading nothing.
+-- The laws of a head with items after it, and of reading nothing.
 use Rattle.std.proofs.Common.{◌≡◌, ℕ, zero, suc, ◌<◌, ◌≤◌, Bool, true, false, List, [], ◌∷◌, ◌++◌, length, Option, Some, None, is_some, Ok, Err, inl, inr, refl, sym, ◌∙◌, ap, subst, append_assoc, append-nil, arith}
 use Rattle.traceql_tokens.specs.declared.fixed.Sign.{Sign}
 use Rattle.traceql_tokens.specs.declared.kinds.Token.{Token}

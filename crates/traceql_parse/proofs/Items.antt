@@ -1,4 +1,4 @@
--- Items behind a head: one turn of the loop.
+-- Items after a head: one turn of the loop.
 use Rattle.std.proofs.Common.{◌≡◌, ℕ, zero, suc, ◌<◌, ◌≤◌, Bool, true, false, List, [], ◌∷◌, length, Ok, Err, refl, sym, ◌∙◌, ap, arith}
 use Rattle.traceql_tokens.specs.declared.kinds.Token.{Token}
 use Rattle.traceql_parse.specs.declared.stop.Cause.{Cause}
@@ -16,7 +16,7 @@ module _ {A B : Type 0} (goes : List Token → Bool) (item : List Token → Answ
   pub turns_on : (n : ℕ) (a : A) (ts : List Token) (r : Answer B) → goes ts ≡ true → item ts ≡ r → turns goes item join (suc n) a ts ≡ (r >>= λ x. turns goes item join n (join a x.0) x.1)
   turns_on n a ts r e h = rw (e, turns) (ap (λ (z : Answer B). z >>= λ x. turns goes item join n (join a x.0) x.1) h)
 
-  -- the same turns with more fuel, behind a first item
+  -- the same turns with more fuel, after a first item
   step : (m n : ℕ) (a : A) (ts : List Token) → ((a : A) (rest : List Token) → length rest < length ts → turns goes item join m a rest ≡ turns goes item join n a rest) → Shrinks item → (r : Answer B) → item ts ≡ r → (r >>= λ x. turns goes item join m (join a x.0) x.1) ≡ (r >>= λ x. turns goes item join n (join a x.0) x.1)
   step m n a ts same shrinks (Ok x) e = same (join a x.0) x.1 (shrinks ts x e)
   step m n a ts same shrinks (Err d) e = refl

@@ -35,7 +35,7 @@ Alike [] us = ⊥
 Alike (t ∷ ts) [] = ⊥
 Alike (t ∷ ts) (u ∷ us) = (u.kind ≡ t.kind) ⊎ (u.kind ≡ mended t.kind)
 
--- What was read is spelled so; and with other tokens behind it that begin alike, or where more may be opened, it is
+-- What was read is spelled so; and with other tokens after it that begin alike, or where more may be opened, it is
 -- read just so.
 pub record Took {A : Type 0} (r : Reader A) (L : Lang A) (n : ℕ) (ts : List Token) (a : A) (rest : List Token) : Type 0 where
   pub front : List Token
@@ -184,7 +184,7 @@ module _ {A B : Type 0} (p : Reader A) (P : Lang A) (f : A → Reader B) (F : A 
   left_bars some n front (t ∷ rest) cause.Faulty b = (b.0, seq_from_left some n (front ++ (healed t ∷ [])) b.1)
   left_bars some n front (t ∷ rest) cause.TooDeep b = ((λ more. bind_fails (p n (front ++ (healed t ∷ more))) (λ x. f x.0 n x.1) (b.0 more)), seq_from_left some (suc n) (front ++ (healed t ∷ [])) b.1)
 
-  -- behind what the first reads, the second is at work
+  -- after what the first reads, the second is at work
   later : (n m : ℕ) (ts : List Token) (a : A) (after front : List Token) (t : Token) (rest : List Token) (one : Took p P n ts a after) → after ≡ front ++ (t ∷ rest) → (more : List Token) → Fails (f a (deeper m n) (front ++ (healed t ∷ more))) → Fails (next p f (deeper m n) ((one.front ++ front) ++ (healed t ∷ more)))
   later n m ts a after front t rest one cut more k =
       let tail : List Token = front ++ (healed t ∷ more) in

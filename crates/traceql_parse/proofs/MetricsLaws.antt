@@ -33,7 +33,7 @@ use Rattle.traceql_parse.proofs.StageLaws.{never_goes, is_by, only_by, r_stage, 
 use Rattle.traceql_parse.proofs.QueryLaws.{worded, Worded, worded_sound, worded_completes, worded_refuses, worded_begins, nothing_occurs, stage_keeps, stage_sound, stage_completes, stage_refuses, stage_grows, stage_occurs, StagesMore, all_deeper, AllDeeper, all_grows, QueryOf, PipedItem, query_from, query_grow, query_occurs}
 use Rattle.traceql_parse.proofs.Parsing.{Parses}
 
--- A stage and the bar behind it.
+-- A stage and the bar after it.
 
 abbrev pub bar : Reader (ℕ × Unit {0})
 bar n ts = expect_sign (delimits delimiter.Bar) ts
@@ -126,7 +126,7 @@ before_occurs q n = (q, [], done)
 before_refuses : (n : ℕ) (q : QueryTree) → IsRefusing (before q) (Before q) n
 before_refuses n = repeated_refuses stage_next local_next barred Barred_stage read.add_stage barred_shrinks barred_grows n (barred_sound n) (barred_refuses n)
 
--- A query and the bar behind it.
+-- A query and the bar after it.
 
 pub record Front (n : ℕ) (q : QueryTree) (ts : List Token) : Type 0 where
   pub at : ℕ
@@ -171,7 +171,7 @@ front_to n q ts s =
     (sym (s.cut ∙ ap (λ (z : List Token). s.xs ++ z) (b.cut ∙ ap (λ (z : List Token). z ++ b.ys) b.left.cut ∙ ap (λ (z : Token). z ∷ b.ys) w.0)))
     (front_on n (read.alone s.first) q t.at s.xs b.ys (rule.start s.left) b.right)
 
--- bars before stages are bars behind them
+-- bars before stages are bars after them
 bars_behind : (n : ℕ) (a d : QueryTree) (ys : List Token) (at : ℕ) → StagesMore a n d ys → (b : ℕ) × (zs : List Token) × (ys ++ (mark at sign.Bar ∷ []) ≡ mark b sign.Bar ∷ zs) × Before a n d zs
 bars_behind n a d ys at done = (at, [], refl, done)
 bars_behind n a d ys at (turn {b = b} {ys = us} {zs = vs} e m more) =

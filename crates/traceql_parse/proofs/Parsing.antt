@@ -162,7 +162,7 @@ module _ {A : Type 0} (r : Reader A) (S : Spelling A) (laws : Parses r S) where
     blames rest cause.Faulty b = blamed_faulty t.kind b.0.0 refl b.0.1 b.1
     blames rest cause.TooDeep b = blamed_deep t.kind refl (not_yet b.0) b.1
 
-    -- what is read, and a token behind it
+    -- what is read, and a token after it
     trailing : (ts rest : List Token) (q : A) (took : Took r (Above S) n ts q (t ∷ rest)) → took.front ≡ front → Blames S (suc n) front t (token_error cause.Unexpected t.at t.kind)
     trailing ts rest q took same = blamed_unexpected t.kind refl none
       where

@@ -17,7 +17,7 @@ abbrev pub stage_next : List Token → Bool
 stage_next [] = false
 stage_next (t ∷ ts) = is_before t.kind
 
--- a stage and the bar behind it
+-- a stage and the bar after it
 unfoldable pub stage_bar : ℕ → List Token → Answer StageTree
 stage_bar n ts = do
   s ← stage n ts
@@ -27,7 +27,7 @@ stage_bar n ts = do
 unfoldable pub stages_before : ℕ → QueryTree → List Token → Answer QueryTree
 stages_before n q ts = items stage_next (stage_bar n) add_stage q ts
 
--- a query and the bar behind it
+-- a query and the bar after it
 unfoldable pub query_bar : ℕ → List Token → Answer QueryTree
 query_bar n ts = do
   s ← all_sets (suc n) ts

@@ -1,4 +1,4 @@
-//! What one token stands for: a literal, a field, a pattern, or a number behind a comparison of an aggregate.
+//! What one token stands for: a literal, a field, a pattern, or a number after a comparison of an aggregate.
 
 ghost use Rattle.std.specs.Prelude.{◌≡◌, IfOk};
 ghost use Rattle.traceql_syntax.specs.Tables as tables;

@@ -1,4 +1,5 @@
-//! What the first token is.
+//! What the first token is: a delimiter, an operator of a level, the word of a stage. The other files choose by it how
+//! they read on.
 
 ghost use Rattle.std.specs.Prelude.{◌≡◌, is_some, option_map, if◌then◌else◌, Some, None};
 ghost use Rattle.traceql_syntax.specs.declared.field.Level.TheVariants as level;

@@ -20,7 +20,7 @@ use std::alloc::Global;
 use traceql_syntax::{MetricsQuery, Operand, ParseError, Query, Stage, Stages};
 use traceql_tokens::{Token, metrics_tokens};
 
-/// A stage and the bar behind it.
+/// A stage and the bar after it.
 #[tactic(auto, unfolding(crate::specs::Metrics::stage_bar))]
 fn read_stage_bar<'a>(
     alloc: Global,
@@ -35,7 +35,7 @@ fn read_stage_bar<'a>(
     Ok((stage, rest))
 }
 
-/// A query and the bar behind it, up to the word that ends a metrics query.
+/// A query and the bar after it, up to the word that ends a metrics query.
 #[tactic(auto, using(crate::proofs::MetricsLoops::stages_before_stops, crate::proofs::MetricsLoops::stages_before_fails, crate::proofs::MetricsLoops::stages_before_steps, crate::proofs::MetricsLoops::stage_bar_smaller), unfolding(crate::specs::Metrics::query_bar))]
 fn read_query_bar<'a>(
     alloc: Global,
@@ -122,8 +122,8 @@ fn parse_tokens(alloc: Global, tokens: &[Token], length: u64) -> Result<MetricsQ
 
 /// The metrics query that a text is, each of its parts with its place.
 ///
-/// What a metrics query is, the grammar of `traceql_syntax` says; the limits and the order of faults are those of [`crate::parse`].
-/// For want of memory there may be neither.
+/// What a metrics query is, the grammar of `traceql_syntax` says; the limits and the order of faults are those of
+/// [`crate::parse`]. Out of memory there may be neither.
 pub fn parse_metrics(alloc: Global, text: &str) -> Result<MetricsQuery, ParseError>
     ensures too_long { MOST_QUERY_BYTES < length text.now →
         result ≡ Err (ParseError.TooLong (length text.now)) }

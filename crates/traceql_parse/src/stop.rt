@@ -1,4 +1,4 @@
-//! Why reading stops.
+//! Why reading stops: what each reading function answers in place of a tree.
 
 ghost use Rattle.traceql_parse.specs.declared.stop.Stop.TheVariants as stop;
 ghost use Rattle.std.specs.Prelude.{◌≡◌};

@@ -1,4 +1,4 @@
-//! From a text to its query, or to why it has none.
+//! The entry point for queries: from a text to its query, or to why it has none.
 
 ghost use Rattle.std.specs.Prelude.{◌≡◌, ◌<◌, ◌≤◌, ℕ, List, length, Ok, Err, IfOk, IfErr, MatchResult};
 ghost use Rattle.traceql_syntax.specs.Depth.{query_nesting};
@@ -77,9 +77,9 @@ fn parse_tokens(alloc: Global, tokens: &[Token], length: u64) -> Result<Query, P
 
 /// The query that a text is, each of its parts with its place.
 ///
-/// What a query is, the grammar of `traceql_syntax` says. Two limits come on top: 64 constructs that are open inside of one
-/// another, and [`MOST_QUERY_BYTES`] bytes. Of several faults the one that a reader meets first is told. For want of memory there may be
-/// neither.
+/// What a query is, the grammar of `traceql_syntax` says. Two limits come on top: 64 constructs that are open inside
+/// of one another, and [`MOST_QUERY_BYTES`] bytes. Of several faults the one that a reader meets first is reported.
+/// Out of memory there may be neither.
 pub fn parse(alloc: Global, text: &str) -> Result<Query, ParseError>
     ensures too_long { MOST_QUERY_BYTES < length text.now →
         result ≡ Err (ParseError.TooLong (length text.now)) }

@@ -1,4 +1,4 @@
--- The printed tokens are the tokens of the printed text, since a space or a parenthesis stands behind each.
+-- The printed tokens are the tokens of the printed text, since a space or a parenthesis stands after each.
 use Rattle.std.proofs.Common.{◌≡◌, ℕ, ◌+◌, ◌-◌, ◌*◌, ◌/◌, ◌%◌, ◌^◌, ◌<◌, ◌≤◌, Bool, true, false, cond, eqb, List, [], ◌∷◌, ◌++◌, length, map, Option, Some, None, Ok, refl, ap, ap₂, sym, subst, ◌∙◌, inl, inr, arith, ◌&&◌, if◌then◌else◌, length-append, eqb-true, append-nil, codes}
 use Rattle.std.specs.Char.{is_ascii_digit}
 use Rattle.std.specs.Fmt.{decimal}
@@ -163,7 +163,7 @@ kind_right at (token.Quoted value) h = quoted_whole value
 kind_right at (token.Number n) h = let d = numeral_in n h in (d.0, d.1, h)
 kind_right at (token.Duration n) h = duration_right n h
 
--- what stands behind a token keeps it apart, unless the token is an opening parenthesis
+-- what stands after a token keeps it apart, unless the token is an opening parenthesis
 closed_text : (k : TokenKind) → closes k ≡ true → kind_text k ≡ 41 ∷ []
 unfolding kind_text
 closed_text (token.Mark sign.CloseParen) h = refl

@@ -31,14 +31,14 @@ put_append s xs ys = fold-append put s xs ys
 pub put_one : (s : Printer) (k : TokenKind) → put s k ≡ put_all s (k ∷ [])
 put_one s k = sym (put_more s k [] ∙ put_none (put s k))
 
--- a token behind what stands before it
+-- a token after what stands before it
 pub put_is : (s t : Printer) (before text : List ℕ) (tight : Bool) (k : TokenKind) → record { text = before; tight = tight } ≡ t → t ≡ spaced s (closes k) → text ≡ before ++ kind_text k → record { text = text; tight = opens k } ≡ put s k
 unfolding put
 put_is s t before text tight k seen e f =
     let whole : text ≡ s.text ++ (gap s.tight (closes k) ++ kind_text k) = f ∙ ap (λ (x : Printer). x.text ++ kind_text k) (seen ∙ e) ∙ append_assoc s.text (gap s.tight (closes k)) (kind_text k) in
     ap (λ x. record { text = x; tight = opens k }) whole
 
--- a token and what stands behind it
+-- a token and what stands after it
 pub put_before : (s t u : Printer) (k : TokenKind) (ks : List TokenKind) → t ≡ put s k → u ≡ put_all t ks → u ≡ put_all s (k ∷ ks)
 put_before s t u k ks e f = f ∙ ap (λ x. put_all x ks) e ∙ sym (put_more s k ks)
 
@@ -66,7 +66,7 @@ text_more s (k ∷ ks) =
 pub text_blank : (ks : List TokenKind) → (put_all blank ks).text ≡ text_of ks
 text_blank ks = text_more blank ks
 
--- the steps of a word and of what stands in parentheses behind it
+-- the steps of a word and of what stands in parentheses after it
 pub put_call : (s t u v w : Printer) (x : Word) (ks : List TokenKind) → t ≡ put s (token.Keyword x) → u ≡ put t (token.Mark sign.OpenParen) → v ≡ put_all u ks → w ≡ put v (token.Mark sign.CloseParen) → w ≡ put_all s (call x ks)
 put_call s t u v w x ks e f g h = put_before s t w (token.Keyword x) (in_parens ks) e (put_between t u v w (token.Mark sign.OpenParen) (token.Mark sign.CloseParen) ks f g h)
 
@@ -80,7 +80,7 @@ pub put_part : {X : Type 0} (f : X → List TokenKind) (s t u : Printer) (k : To
 put_part f s t u k xs x ks is e g =
     put_before (put_all s (flat_map f xs)) t u k ks e g ∙ ap (put_all (put_all s (flat_map f xs))) (sym is ∙ sym (flat_map-single f x)) ∙ sym (put_append s (flat_map f xs) (flat_map f (x ∷ []))) ∙ ap (put_all s) (sym (flat_map-append f xs (x ∷ [])))
 
--- the steps of a minus, where there is one, and of what stands behind it
+-- the steps of a minus, where there is one, and of what stands after it
 pub put_signed : (s t u : Printer) (negative : Bool) (k : TokenKind) → t ≡ (if negative then put_all s (token.Mark sign.Minus ∷ []) else s) → u ≡ put t k → u ≡ put_all s (signed negative k)
 put_signed s t u true k e f = put_before s t u (token.Mark sign.Minus) (k ∷ []) (e ∙ sym (put_one s (token.Mark sign.Minus))) (f ∙ put_one t k)
 put_signed s t u false k e f = f ∙ ap (λ x. put x k) e ∙ put_one s k
@@ -102,7 +102,7 @@ pub no_fields : (fs : List Field) → length fs < 1 → fields_kinds fs ≡ []
 no_fields [] h = refl
 no_fields (f ∷ fs) h = absurd (omega arith)
 
--- the first field, and the ones behind it
+-- the first field, and the ones after it
 pub some_fields : (fs : List Field) (f : Field) → 1 ≤ length fs → f ≡ get_or fs 0 f → field_kind f ∷ more_fields_kinds (take (length fs - 1) (drop 1 fs)) ≡ fields_kinds fs
 some_fields [] f h e = absurd (omega arith)
 some_fields (g ∷ gs) f h e =

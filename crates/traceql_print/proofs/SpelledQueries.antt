@@ -223,7 +223,7 @@ between_same : (xs zs : List StageTree) (y s : StageTree) → bare_stage y ≡ b
 between_same [] zs y s e = ap (λ x. x ∷ map bare_stage zs) e
 between_same (x ∷ xs) zs y s e = ap (λ r. bare_stage x ∷ r) (between_same xs zs y s e)
 
--- what stands behind a query that is spelled already
+-- what stands after a query that is spelled already
 stages_spelt : (ss : List StageTree) → AllByRecursion HasFields ss → (q : QueryTree) (n : ℕ) → stages_depth ss ≤ n → (ts us : List Token) → SpellsQuery n q ts → AreOf (stages_kinds ss) us → SpeltQuery n (record { spansets = q.spansets; stages = q.stages ++ ss }) (ts ++ us)
 stages_spelt [] f q n h ts [] d e =
     record { found = q; spelled = subst (λ x. SpellsQuery n q x) (sym (append-nil ts)) d; same = ap (λ l. bare_query (record { spansets = q.spansets; stages = l })) (sym (append-nil q.stages)) }

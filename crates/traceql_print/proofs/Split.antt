@@ -82,7 +82,7 @@ between_of k ks l us e =
     let o = lone_of l s.back s.right in
     record { first = h.at; inner = s.front; last = o.at; whole = h.whole ∙ ap (λ x. here h.at k ∷ x) (s.whole ∙ ap (λ x. s.front ++ x) o.whole); inside = s.left }
 
--- a word, and a part in parentheses behind it
+-- a word, and a part in parentheses after it
 pub record Call (w : Word) (ks : List TokenKind) (us : List Token) : Type 0 where
   pub at : ℕ
   pub opened : ℕ

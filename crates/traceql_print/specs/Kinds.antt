@@ -13,7 +13,7 @@ use Rattle.traceql_print.specs.Signs.{unary_sign, binary_sign, comparison_sign, 
 abbrev pub in_parens : List TokenKind → List TokenKind
 in_parens ks = token.Mark sign.OpenParen ∷ (ks ++ token.Mark sign.CloseParen ∷ [])
 
--- a word and what stands in parentheses behind it
+-- a word and what stands in parentheses after it
 abbrev pub call : Word → List TokenKind → List TokenKind
 call w ks = token.Keyword w ∷ in_parens ks
 

@@ -14,7 +14,7 @@ use Rattle.traceql_syntax.specs.Trees.{QueryTree}
 use Rattle.traceql_print.specs.Signs.{field_kind}
 use Rattle.traceql_print.specs.Kinds.{query_kinds}
 
--- the letter behind the backslash where a byte of a string is written by an escape: the quote, the backslash, a line
+-- the letter after the backslash where a byte of a string is written by an escape: the quote, the backslash, a line
 -- feed, a carriage return and a tab
 abbrev pub escape_letter : ℕ → Option ℕ
 escape_letter b =
@@ -62,7 +62,7 @@ abbrev pub closes : TokenKind → Bool
 closes (token.Mark sign.CloseParen) = true
 closes _ = false
 
--- what stands before a token: a space, but nothing where the text begins, behind `(` and before `)`
+-- what stands before a token: a space, but nothing where the text begins, after `(` and before `)`
 abbrev pub gap : (tight closing : Bool) → List ℕ
 gap tight closing = if closing then [] else (if tight then [] else codes " ")
 

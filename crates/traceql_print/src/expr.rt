@@ -1,4 +1,4 @@
-//! Field expressions, filters and expressions over spansets.
+//! Writing field expressions, filters and expressions over spansets: trees to tokens.
 
 ghost use Rattle.std.specs.Prelude.{◌≡◌, OnOk};
 ghost use Rattle.traceql_syntax.specs.Trees.{tree, placed_option, set_tree};

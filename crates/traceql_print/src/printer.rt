@@ -43,7 +43,7 @@ pub(crate) fn push_field(out: &mut String, field: &Field) -> Result<(), Memory>
     }
 }
 
-/// The text so far, and whether the next token stands at it without a space: where the text begins, and behind `(`.
+/// The text so far, and whether the next token stands at it without a space: where the text begins, and after `(`.
 #[derive(Drop)]
 pub(crate) struct Printer {
     text: String,

@@ -1,4 +1,4 @@
-//! The printed form of a query and of a field.
+//! The entry points: the printed form of a query and of a field.
 
 ghost use Rattle.std.specs.Prelude.{◌≡◌, ℕ, List, [], ◌∷◌, IfOk, MatchResult};
 ghost use Rattle.traceql_tokens.specs.Tokens.{AreTokens};
@@ -18,7 +18,7 @@ use traceql_syntax::{Field, ParseError, Query};
 /// A query in its printed form, in time linear in the text's length.
 ///
 /// The grammar relates the printed text to the query again, whatever text the query came from. Places in the text are
-/// its own, so they aren't compared. It fails only for want of memory.
+/// its own, so they aren't compared. It fails only if memory runs out.
 pub fn print_query(alloc: Global, query: &Query) -> Result<Text, Memory>
     ensures text { IfOk result (λ text. text ≡ query_text (query_tree query.now)) }
     // What some text means, the printed text means too.
@@ -43,7 +43,7 @@ pub fn read_back(alloc: Global, query: &Query) -> Result<Query, ParseError>
 }
 
 /// A field in its printed form, which is one token: an attribute or an intrinsic as it was written, but for the quotes
-/// of a name. It fails only for want of memory.
+/// of a name. It fails only if memory runs out.
 pub fn print_field(alloc: Global, field: &Field) -> Result<Text, Memory>
     ensures text { IfOk result (λ text. text ≡ field_text field.now) }
     // The text has just this token, where the field has a name.

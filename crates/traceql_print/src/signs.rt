@@ -141,8 +141,8 @@ pub fn status_word(status: StatusCode) -> Word
     }
 }
 
-/// The word of a span kind: `unspecified`, `internal`, `server`, `client`, `producer` or `consumer`, as a query names it
-/// and a reply shows it.
+/// The word of a span kind: `unspecified`, `internal`, `server`, `client`, `producer` or `consumer`, as a query names
+/// it and a reply shows it.
 pub fn kind_word(kind: SpanKind) -> Word
     ensures { result ≡ signs.kind_word kind }
 {

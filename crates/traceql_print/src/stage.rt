@@ -1,4 +1,4 @@
-//! Aggregates, stages and whole queries.
+//! Writing aggregates, stages and whole queries: trees to tokens.
 
 ghost use Rattle.std.specs.Prelude.{◌≡◌, [], ◌∷◌, OnOk, map, if◌then◌else◌};
 ghost use Rattle.traceql_tokens.specs.declared.fixed.Sign.TheVariants as sign;

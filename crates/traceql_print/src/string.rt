@@ -1,4 +1,4 @@
-//! Strings and names as they are printed.
+//! Writing strings and names: with quotes and escapes if they need them.
 
 ghost use Rattle.std.specs.Prelude.{◌≡◌, ◌++◌, OnOk, not, string_bytes};
 ghost use Rattle.std.specs.List.{list_all, prefix_len};
@@ -8,7 +8,7 @@ ghost use Rattle.traceql_print.specs.Text.{escape_letter, escaped_text, quoted_t
 
 use span_types::Memory;
 
-/// The letter behind the backslash where a byte of a string is written by an escape.
+/// The letter after the backslash where a byte of a string is written by an escape.
 fn escape_letter(byte: u8) -> Option<char>
     ensures { result ≡ escape_letter byte }
 {

@@ -116,7 +116,7 @@ pub data SpellsQuery : ℕ → QueryTree → List Token → Type 0 where
   start : {n : ℕ} {e : SetTree} {ts : List Token} → SpellsSet n (Sets set_level.Union) e ts → SpellsQuery n (record { spansets = e; stages = [] }) ts
   piped : {n : ℕ} {q : QueryTree} {s : StageTree} {xs ys : List Token} (at : ℕ) → SpellsQuery n q xs → SpellsStage n s ys → SpellsQuery n (record { spansets = q.spansets; stages = q.stages ++ s ∷ [] }) (xs ++ mark at sign.Bar ∷ ys)
 
--- A metrics query: a query, a bar, `rate ( )` or `count_over_time ( )`, and behind it, if the spans are split, `by` and an expression in
+-- A metrics query: a query, a bar, `rate ( )` or `count_over_time ( )`, and after it, if the spans are split, `by` and an expression in
 -- parentheses.
 pub data SpellsMetrics : ℕ → MetricsTree → List Token → Type 0 where
   whole : {n : ℕ} {q : QueryTree} {rate : Bool} {xs : List Token} (bar at opened closed : ℕ) (w : Word) → metrics_word w ≡ Some rate → SpellsQuery (suc n) q xs → SpellsMetrics (suc n) (record { query = q; rate = rate; by = None }) (xs ++ mark bar sign.Bar ∷ keyword at w ∷ in_parens opened [] closed)

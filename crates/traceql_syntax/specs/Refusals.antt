@@ -50,7 +50,7 @@ fault_error at fault.FractionLiteral = error.FractionLiteral at
 fault_error at (fault.Unended quote) = error.Unended quote
 fault_error at (fault.UnknownEscape backslash) = error.BadChar backslash
 
--- Why a token is refused behind tokens that begin a sentence: it begins no token at all; no sentence whatever its depth
+-- Why a token is refused after tokens that begin a sentence: it begins no token at all; no sentence whatever its depth
 -- goes on with it, even without its fault; a sentence goes on with it, but for its fault; or only a deeper one does.
 pub data Blames {A : Type 0} (Spelled : Spelling A) (depth : ℕ) (front : List Token) (t : Token) : ParseError → Type 0 where
   unknown : t.kind ≡ token.Unknown → Blames Spelled depth front t (error.BadChar t.at)
@@ -58,13 +58,13 @@ pub data Blames {A : Type 0} (Spelled : Spelling A) (depth : ℕ) (front : List 
   faulty : {f : Fault} → fault_of t.kind ≡ Some f → Begins Spelled depth (front ++ healed t ∷ []) → Blames Spelled depth front t (fault_error t.at f)
   deep : (Begins Spelled depth (front ++ healed t ∷ []) → ⊥) → Begins Spelled (suc depth) (front ++ healed t ∷ []) → Blames Spelled depth front t (error.TooDeep t.at)
 
--- Why a text of this length is refused behind its first tokens: it ends there and is no sentence yet, or the next token
+-- Why a text of this length is refused after its first tokens: it ends there and is no sentence yet, or the next token
 -- is refused.
 abbrev pub IsCause : {A : Type 0} → Spelling A → ℕ → ℕ → List Token → List Token → ParseError → Type 0
 IsCause {A} Spelled depth len front [] why = (why ≡ error.Unended len) × ((x : A) → Spelled depth x front → ⊥)
 IsCause Spelled depth len front (t ∷ rest) why = Blames Spelled depth front t why
 
--- The text is refused for this cause: its first tokens begin a sentence, and behind them it is refused. That is the
+-- The text is refused for this cause: its first tokens begin a sentence, and after them it is refused. That is the
 -- earliest place, since what is before it is no cause.
 pub record Refuses {A : Type 0} (words : List Word) (Spelled : Spelling A) (depth : ℕ) (text : List ℕ) (why : ParseError) : Type 0 where
   pub front : List Token
@@ -73,7 +73,7 @@ pub record Refuses {A : Type 0} (words : List Word) (Spelled : Spelling A) (dept
   pub begun : Begins Spelled depth front
   pub cause : IsCause Spelled depth (length text) front rest why
 
--- The refusal is right: want of memory, a text that is too long, or else the refusal of the earliest place.
+-- The refusal is right: out of memory, a text that is too long, or else the refusal of the earliest place.
 abbrev pub IsRefusalOf : {A : Type 0} → List Word → Spelling A → List ℕ → ParseError → Type 0
 IsRefusalOf words Spelled text error.Memory = Unit {0}
 IsRefusalOf words Spelled text (error.TooLong len) = (MOST_QUERY_BYTES < length text) × (len ≡ length text)

@@ -22,7 +22,7 @@ use Rattle.traceql_syntax.specs.declared.query.Stage.TheVariants as stage
 use Rattle.traceql_syntax.specs.declared.query.Threshold.{Threshold}
 use Rattle.traceql_syntax.specs.declared.query.Threshold.TheVariants as threshold
 
--- a field expression; behind `first` stands the place of an operand's first byte, and then the operand
+-- a field expression; after `first` stands the place of an operand's first byte, and then the operand
 pub data Tree : Type 0 where
   Literally : (at : ℕ) → Literal → Tree
   Asks : (at : ℕ) → Field → Tree
@@ -65,7 +65,7 @@ pub record MetricsTree : Type 0 where
   pub rate : Bool
   pub by : Option Placed
 
--- The query that is checked and run for a metrics query: its own, with the stage `by` behind it if it splits.
+-- The query that is checked and run for a metrics query: its own, with the stage `by` after it if it splits.
 abbrev pub run_query : QueryTree → Option Placed → QueryTree
 run_query q None = q
 run_query q (Some e) = record { spansets = q.spansets; stages = q.stages ++ By e ∷ [] }

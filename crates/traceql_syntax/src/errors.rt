@@ -1,4 +1,4 @@
-//! Why a text is no query.
+//! Why a text is no query: what the parser answers, with the place.
 
 use thiserror::Error;
 

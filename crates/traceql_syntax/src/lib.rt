@@ -1,5 +1,8 @@
 //! The syntax of TraceQL: queries as trees, the grammar that relates them to tokens, and what a refusal is.
 //!
+//! `field` has expressions within a filter, `query` what stands around them, `metrics` a metrics query; `errors` is
+//! why a text is none.
+//!
 //! The grammar is a definition, `specs/Grammar.antt`, with a rule for each production. `docs/TRACEQL.md` has the
 //! language in words.
 #![tactic(auto)]

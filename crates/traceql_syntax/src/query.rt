@@ -1,4 +1,4 @@
-//! Spansets, stages and queries.
+//! Spansets, stages and queries, as trees.
 
 use crate::{Comparison, Field, Operand};
 use span_types::Seq;
@@ -155,7 +155,7 @@ pub type Fields = Seq<Field>;
 /// The stages of a query, in the text's order.
 pub type Stages = Seq<Stage>;
 
-/// A query: an expression over spansets and the stages behind it.
+/// A query: an expression over spansets and the stages after it.
 #[derive(Debug, Drop)]
 pub struct Query {
     /// What is looked for.

@@ -51,7 +51,7 @@ no_unknown : (xs : List ℕ) (ps : List Piece) → first_unknown (map Plain xs +
 no_unknown [] ps h = h
 no_unknown (x ∷ xs) ps h = no_unknown xs ps (none_before 1 _ h)
 
--- the meaning of plain bytes and of what stands behind them
+-- the meaning of plain bytes and of what stands after them
 run_meaning : (rest : List ℕ) (n : ℕ) → n ≡ prefix_len is_plain rest → filter_map meaning (pieces rest) ≡ take n rest ++ filter_map meaning (pieces (drop n rest))
 run_meaning rest n e =
     ap (filter_map meaning) (plain_run rest) ∙ of_run (take (prefix_len is_plain rest) rest) (pieces (drop (prefix_len is_plain rest) rest)) ∙ ap (λ m. take m rest ++ filter_map meaning (pieces (drop m rest))) (sym e)
@@ -68,7 +68,7 @@ not_quote : (b : ℕ) → (b ≡ 34) ⊎ (b ≡ 92) → (b ≡ 34 → ⊥) → b
 not_quote b (inl q) h = absurd (h q)
 not_quote b (inr q) h = q
 
--- where nothing more can stand behind the plain bytes, there are no pieces
+-- where nothing more can stand after the plain bytes, there are no pieces
 stop_pieces : (rest : List ℕ) (n : ℕ) → n ≡ prefix_len is_plain rest → ((length rest ≤ n + 1) ⊎ (get_or rest n 0 ≡ 34)) → (n < length rest) ⊎ (length rest ≤ n) → pieces (drop n rest) ≡ []
 stop_pieces rest n e s (inr past) = at_end rest n past
 stop_pieces rest n e (inr quote) (inl within) = at_quote rest n within quote
@@ -101,7 +101,7 @@ pub unknown_next : (rest : List ℕ) (n : ℕ) → n ≡ prefix_len is_plain res
 unknown_next rest n e h q k =
     behind_escape (get_or rest (n + 1) 0) (pieces (drop (n + 2) rest)) (escaped (get_or rest (n + 1) 0)) refl (ap first_unknown (sym (here_escape rest n e h q)) ∙ run_unknown rest n e k)
 
--- the byte at the end of a plain run begins a character, and so does the one behind a known escape
+-- the byte at the end of a plain run begins a character, and so does the one after a known escape
 pub stop_ascii : (rest : List ℕ) (n : ℕ) → n ≡ prefix_len is_plain rest → n < length rest → get_or rest n 0 < 128
 stop_ascii rest n e h =
     elim (at_stop rest n e h) [ inl quote ↦ omega arith | inr slash ↦ omega arith ]
@@ -136,7 +136,7 @@ joined v v1 v2 run enc tail r c e1 e2 e3 e4 =
     ap (λ t. t ++ tail) e2 ∙ ap (λ t. t ++ enc ++ tail) e1 ∙ ap (λ t. v ++ run ++ t ++ tail) e3
     ∙ append_assoc (v ++ run) (c ∷ []) tail ∙ append_assoc v run (c ∷ tail) ∙ ap (λ t. v ++ t) (sym e4)
 
--- a text may be cut behind its first byte, where that is a character by itself
+-- a text may be cut after its first byte, where that is a character by itself
 pub first_boundary : (text : List ℕ) (b : ℕ) → IsUtf8 text → get_or text 0 0 ≡ b → 0 < b → b < 128 → IsCharBoundary text 1
 first_boundary [] b u e h k = absurd (omega arith)
 first_boundary (x ∷ xs) b u e h k = IsCharBoundary-after_ascii (x ∷ xs) 0 u (omega arith) (omega arith)

@@ -3,7 +3,7 @@ use Rattle.std.proofs.Common.{◌≡◌, ℕ, ◌+◌, ◌<◌, ◌≤◌, List,
 use Rattle.std.specs.Str.{IsUtf8, IsCharBoundary}
 use Rattle.std.proofs.lemmas.Str.{IsCharBoundary-before_ascii, IsCharBoundary-after_ascii, IsCharBoundary-end}
 
--- before a byte that is a character by itself, behind one, or at the end
+-- before a byte that is a character by itself, after one, or at the end
 pub data End (bs : List ℕ) (n : ℕ) : Type 0 where
   before : n < length bs → get_or bs n 0 < 128 → End bs n
   behind : (m : ℕ) → n ≡ m + 1 → m < length bs → get_or bs m 0 < 128 → End bs n
@@ -22,7 +22,7 @@ end_behind bs k n h (behind m e l a) =
     behind (k + m) (omega arith) (omega (arith, length-drop k bs)) (subst (λ b. b < 128) (get_or-drop k bs m 0) a)
 end_behind bs k n h (whole e) = whole (omega (arith, length-drop k bs))
 
--- What the lexer found: a word that is P, so many bytes, with a rest behind it, and an end between them.
+-- What the lexer found: a word that is P, so many bytes, with a rest after it, and an end between them.
 pub record Found (bs : List ℕ) (n : ℕ) (P : List ℕ → Type 0) : Type 0 where
   pub word : List ℕ
   pub rest : List ℕ

@@ -73,7 +73,7 @@ parts_low : (ps : List Part) → AllByRecursion IsPart ps → list_all is_low (f
 parts_low [] h = refl
 parts_low (p ∷ ps) h = all_append is_low (part_text p) (flat_map part_text ps) (part_low p h.0) (parts_low ps h.1)
 
--- the parts that are read stand there, one behind another
+-- the parts that are read stand there, one after another
 record Row (bs : List ℕ) (ps : List Part) : Type 0 where
   pub rest : List ℕ
   pub each : AllByRecursion IsPart ps

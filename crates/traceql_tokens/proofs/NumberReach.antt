@@ -106,7 +106,7 @@ part_with p more v is e =
     ap part_at (part_spread p more) ∙ part_some bs v (λ z. is.0.1 (list_none p.whole (ap length (sym w) ∙ z))) found
     ∙ ap₂ (λ x y. Some (record { whole = x; fraction = y; unit = v })) w f
 
--- a part is read where it stands, or one that is longer by the `s` behind it
+-- a part is read where it stands, or one that is longer by the `s` after it
 pub part_next : (p : Part) (more : List ℕ) → IsPart p → (part_at (part_text p ++ more) ≡ Some p) ⊎ ((q : Part) × (tl : List ℕ) × (more ≡ 115 ∷ tl) × (part_at (part_text p ++ more) ≡ Some q) × (part_len q ≡ part_len p + 1))
 part_next p more is =
     elim (unit_next p.unit more) [

@@ -6,7 +6,7 @@ use Rattle.traceql_tokens.specs.StringWalk.{pieces, first_unknown}
 use Rattle.traceql_tokens.proofs.StringSteps.{pieces-plain, pieces-escape}
 use Rattle.traceql_tokens.proofs.Decoding.{plain_tells}
 
--- what may stand behind the pieces: nothing, a backslash alone, or a quote
+-- what may stand after the pieces: nothing, a backslash alone, or a quote
 abbrev pub Stop : List ℕ → Type 0
 Stop rest = (rest ≡ []) ⊎ ((rest ≡ 92 ∷ []) ⊎ ((tl : List ℕ) × (rest ≡ 34 ∷ tl)))
 
@@ -83,7 +83,7 @@ means_known (Escape c ∷ ps) value h =
       ap (λ o. cons_option o (filter_map meaning ps)) t.3 ∙ ap (λ y. t.0 ∷ y) ih.1 ∙ sym t.2,
     )
 
--- the first unknown escape, with what stands before and behind it
+-- the first unknown escape, with what stands before and after it
 pub record Splits (ps : List Piece) (n : ℕ) : Type 0 where
   pub front : List Piece
   pub byte : ℕ

@@ -90,7 +90,7 @@ whole_walk at w value rest (whole_quoted ps each m e) =
 whole_walk at w value rest (whole_raw raw e) =
     ap (λ t. string_at at (t ++ rest)) e ∙ raw_known at value rest raw ∙ ap (λ n. Some (Ok value, n)) (closed_size value 96 ∙ ap length (sym e))
 
--- a string between double quotes is open, or goes just behind its quote
+-- a string between double quotes is open, or goes just after its quote
 quoted_either : (at : ℕ) (body : List ℕ) → (quoted_at at body ≡ (Err (fault.Unended at), length body + 1)) ⊎ ((quoted_at at body).1 ≡ body_len body + 2)
 unfolding quoted_at
 quoted_either at body = by_test (eqb (get_or body (body_len body) 0) 34)

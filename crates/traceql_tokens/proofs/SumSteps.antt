@@ -55,7 +55,7 @@ nanos_some unit.Hours = omega arith
 below_or : (a b : ℕ) → (a ≤ b) ⊎ (b < a)
 below_or a b = grind arith
 
--- sums that stand still at the limit are the sum, standing still at the limit
+-- sums that saturate at the limit are the sum, saturated at the limit
 capped_sum : (a w u c : ℕ) → 1 ≤ u → (w ≤ LIMIT) ⊎ (LIMIT < w) → min (min a LIMIT + min w LIMIT * u + c) LIMIT ≡ min (a + w * u + c) LIMIT
 capped_sum a w u c h (inl small) =
     let e : min w LIMIT ≡ w = omega arith in

@@ -66,7 +66,7 @@ pub found_solid : (words : List Word) (at : ℕ) (left : List ℕ) (r : Measured
 found_solid words at [] r h = refl
 found_solid words at (b ∷ tl) r h = first_solid words at b tl r (is_blank b) refl h
 
--- the white space in front, and what is left behind it
+-- the white space in front, and what is left after it
 abbrev pub blanks_of : List ℕ → ℕ
 blanks_of text = prefix_len is_blank text
 
@@ -101,7 +101,7 @@ solid_left text b tl e =
 left_at : (T : List ℕ) (A n : ℕ) → n ≡ blanks_of (drop A T) → drop (A + n) T ≡ left_of (drop A T)
 left_at T A n e = sym (drop-drop n A T) ∙ ap (λ k. drop k (drop A T)) e
 
--- One token of a list: the one that the walk finds behind the white space, or none where it finds none.
+-- One token of a list: the one that the walk finds after the white space, or none where it finds none.
 pub data Step (words : List Word) (at : ℕ) (text : List ℕ) (t : Token) (ts : List Token) : Type 0 where
   goes : (r : Measured) → token_at words (at + blanks_of text) (left_of text) ≡ Some r → t.at ≡ at + blanks_of text → t.kind ≡ r.0 → AreTokensOf words (at + blanks_of text + r.1) (drop r.1 (left_of text)) ts → Step words at text t ts
   stops : token_at words (at + blanks_of text) (left_of text) ≡ None → (left_of text ≡ [] → ⊥) → t.at ≡ at + blanks_of text → t.kind ≡ token.Unknown → ts ≡ [] → Step words at text t ts
@@ -252,7 +252,7 @@ metrics_tokens_unique = one_list METRICS_WORDS metrics_order
 blank_low : (b : ℕ) → is_blank b ≡ true → b < 128
 blank_low b h = grind (arith, nat_tests)
 
--- a text may be cut behind its white space, and behind a token
+-- a text may be cut after its white space, and after a token
 pub blank_boundary : (T : List ℕ) (A n : ℕ) → IsUtf8 T → IsCharBoundary T A → n ≡ blanks_of (drop A T) → IsCharBoundary T (A + n)
 blank_boundary T A zero u b e = subst (λ m. IsCharBoundary T m) (sym (add-zero A)) b
 blank_boundary T A (suc m) u b e =

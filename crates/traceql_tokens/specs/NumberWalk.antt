@@ -17,7 +17,7 @@ use Rattle.traceql_tokens.specs.declared.kinds.TokenKind.TheVariants as token
 abbrev pub unit_at : List ℕ → Option TimeUnit
 unit_at bytes = find (λ u. starts_with nat_eq bytes (unit_text u)) UNITS
 
--- the digits behind a dot that the bytes begin with, or none
+-- the digits after a dot that the bytes begin with, or none
 unfoldable pub fraction_at : List ℕ → List ℕ
 fraction_at bytes = if slice_index bytes 0 == 46 then take_while is_ascii_digit (drop 1 bytes) else []
 
@@ -25,7 +25,7 @@ fraction_at bytes = if slice_index bytes 0 == 46 then take_while is_ascii_digit 
 abbrev pub whole_at : List ℕ → List ℕ
 whole_at bytes = take_while is_ascii_digit bytes
 
--- what stands behind the digits, and behind the fraction
+-- what stands after the digits, and after the fraction
 abbrev pub after_whole : List ℕ → List ℕ
 after_whole bytes = drop (prefix_len is_ascii_digit bytes) bytes
 
@@ -41,12 +41,12 @@ part_at bytes =
 abbrev pub part_len : Part → ℕ
 part_len p = length (part_text p)
 
--- a part and the parts behind it
+-- a part and the parts after it
 abbrev pub parts_from : (List ℕ → List Part) → List ℕ → Option Part → List Part
 parts_from more bytes None = []
 parts_from more bytes (Some p) = p ∷ more (drop (part_len p) bytes)
 
--- the parts that the bytes begin with, one directly behind another, at most n
+-- the parts that the bytes begin with, one directly after another, at most n
 unfoldable pub parts_within : ℕ → List ℕ → List Part
 parts_within zero bytes = []
 parts_within (suc n) bytes = parts_from (parts_within n) bytes (part_at bytes)
@@ -74,7 +74,7 @@ duration_of (p ∷ ps) = Some (duration_kind (places (p ∷ ps)) (scaled (places
 unfoldable pub duration_at : List ℕ → Option (TokenKind × ℕ)
 duration_at bytes = duration_of (parts bytes)
 
--- the token of digits and of those behind a dot
+-- the token of digits and of those after a dot
 abbrev pub plain_of : List ℕ → List ℕ → TokenKind
 plain_of whole [] = number_kind (decimal whole)
 plain_of whole (d ∷ ds) = token.Broken class.Number fault.FractionLiteral

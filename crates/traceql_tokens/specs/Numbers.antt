@@ -14,7 +14,7 @@ LIMIT = 2 ^ 63
 abbrev pub IsDigitRun : List ℕ → Type 0
 IsDigitRun text = AreDigits text × (text ≢ [])
 
--- a part of a duration: digits, digits behind a dot or none, and a unit
+-- a part of a duration: digits, digits after a dot or none, and a unit
 pub record Part : Type 0 where
   pub whole : List ℕ
   pub fraction : List ℕ
@@ -31,12 +31,12 @@ part_text p = p.whole ++ (fraction_text p.fraction ++ unit_text p.unit)
 abbrev pub IsPart : Part → Type 0
 IsPart p = IsDigitRun p.whole × AreDigits p.fraction
 
--- the most digits behind a dot
+-- the most digits after a dot
 abbrev pub places : List Part → ℕ
 places [] = 0
 places (p ∷ ps) = max (length p.fraction) (places ps)
 
--- 10 ^ k times the sum of the parts in nanoseconds, where no part has more than k digits behind its dot
+-- 10 ^ k times the sum of the parts in nanoseconds, where no part has more than k digits after its dot
 abbrev pub scaled : ℕ → List Part → ℕ
 scaled k [] = 0
 scaled k (p ∷ ps) = decimal (p.whole ++ p.fraction) * unit_nanos p.unit * 10 ^ (k - length p.fraction) + scaled k ps

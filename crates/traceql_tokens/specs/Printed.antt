@@ -1,4 +1,4 @@
--- What a printer rests on: tokens that are written one behind another, kept apart by spaces, are the tokens of the text.
+-- What a printer rests on: tokens that are written one after another, kept apart by spaces, are the tokens of the text.
 use Rattle.std.specs.Prelude.{◌≡◌, ℕ, ◌+◌, List, [], ◌∷◌, ◌++◌, length}
 use Rattle.traceql_tokens.specs.Tokens.{IsToken, AreTokens}
 use Rattle.traceql_tokens.specs.declared.fixed.Sign.TheVariants as sign
@@ -6,7 +6,7 @@ use Rattle.traceql_tokens.specs.declared.kinds.Token.{Token}
 use Rattle.traceql_tokens.specs.declared.kinds.TokenKind.{TokenKind}
 use Rattle.traceql_tokens.specs.declared.kinds.TokenKind.TheVariants as token
 
--- what keeps a token apart from the text behind it: the end, a space or a closing parenthesis
+-- what keeps a token apart from the text after it: the end, a space or a closing parenthesis
 pub data Apart (rest : List ℕ) : Type 0 where
   at_end : rest ≡ [] → Apart rest
   at_space : (tl : List ℕ) → rest ≡ 32 ∷ tl → Apart rest

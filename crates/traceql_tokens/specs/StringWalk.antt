@@ -22,7 +22,7 @@ first_unknown [] = None
 first_unknown (Plain b ∷ ps) = option_map (λ n. n + 1) (first_unknown ps)
 first_unknown (Escape c ∷ ps) = if is_none (escaped c) then Some 0 else option_map (λ n. n + 2) (first_unknown ps)
 
--- this value, or the fault of an unknown escape so many bytes behind a place
+-- this value, or the fault of an unknown escape so many bytes after a place
 abbrev pub value_or : ℕ → List ℕ → Option ℕ → Result (List ℕ) Fault
 value_or at value None = Ok value
 value_or at value (Some n) = Err (fault.UnknownEscape (at + n))
@@ -31,12 +31,12 @@ value_or at value (Some n) = Err (fault.UnknownEscape (at + n))
 unfoldable pub value_of : ℕ → List Piece → Result (List ℕ) Fault
 value_of at ps = value_or at (filter_map meaning ps) (first_unknown ps)
 
--- a string behind its double quote, which has the place `at`: what it is, and how many bytes it has with its quotes
+-- a string after its double quote, which has the place `at`: what it is, and how many bytes it has with its quotes
 unfoldable pub quoted_at : ℕ → List ℕ → Result (List ℕ) Fault × ℕ
 quoted_at at body =
     if slice_index body (body_len body) == 34 then (value_of (at + 1) (pieces body), body_len body + 2) else (Err (fault.Unended at), length body + 1)
 
--- a string behind its backquote
+-- a string after its backquote
 unfoldable pub raw_at : ℕ → List ℕ → Result (List ℕ) Fault × ℕ
 raw_at at body =
     let n = prefix_len (λ b. not (b == 96)) body in

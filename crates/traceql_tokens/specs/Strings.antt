@@ -1,4 +1,4 @@
--- String literals. Between double quotes a backslash and the byte behind it are one piece, and every other byte is one;
+-- String literals. Between double quotes a backslash and the byte after it are one piece, and every other byte is one;
 -- between backquotes each byte stands for itself.
 use Rattle.std.specs.Prelude.{◌≡◌, ℕ, ◌+◌, ◌==◌, Bool, true, not, ◌&&◌, List, [], ◌∷◌, ◌++◌, length, map, Option, Some, None, Result, Ok, Err, if◌then◌else◌}
 use Rattle.std.specs.List.{flat_map, list_all, AllByRecursion}
@@ -60,13 +60,13 @@ pub data IsWhole (text value : List ℕ) : Type 0 where
   whole_quoted : (ps : List Piece) → ArePieces ps → Means ps value → text ≡ 34 ∷ (pieces_text ps ++ 34 ∷ []) → IsWhole text value
   whole_raw : IsRaw value → text ≡ 96 ∷ (value ++ 96 ∷ []) → IsWhole text value
 
--- a string that doesn't end: a quote, and no closing one behind it
+-- a string that doesn't end: a quote, and no closing one after it
 pub data IsUnended (text : List ℕ) : Type 0 where
   open_quoted : (ps : List Piece) → ArePieces ps → text ≡ 34 ∷ pieces_text ps → IsUnended text
   open_backslash : (ps : List Piece) → ArePieces ps → text ≡ 34 ∷ (pieces_text ps ++ 92 ∷ []) → IsUnended text
   open_raw : (body : List ℕ) → IsRaw body → text ≡ 96 ∷ body → IsUnended text
 
--- a string that ends, whose first unknown escape has its backslash so many bytes behind the string's first one
+-- a string that ends, whose first unknown escape has its backslash so many bytes after the string's first one
 pub record HasUnknown (text : List ℕ) (offset : ℕ) : Type 0 where
   pub front : List Piece
   pub value : List ℕ

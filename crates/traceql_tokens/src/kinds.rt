@@ -1,9 +1,9 @@
-//! Tokens.
+//! What a token is: its class, its value, its place, and what may be wrong with it.
 
 use crate::{AttributeScope, Intrinsic, Sign, Word};
 use span_types::{Seq, Text};
 
-/// What is wrong with a token. Its class and its end are clear all the same, so the tokens behind it are read.
+/// What is wrong with a token. Its class and its end are clear all the same, so the tokens after it are read.
 /// A place counts bytes from the start of the text.
 #[derive(Clone, Copy, Debug, PartialEq, Eq)]
 pub enum Fault {

@@ -1,4 +1,4 @@
-//! The lexer.
+//! The lexer: text to tokens, one after another, the longest that fits each time.
 
 ghost use Rattle.std.specs.Prelude.{◌≡◌, ◌+◌, ◌^◌, ◌<◌, ◌≤◌, ℕ, IfOk, IsTrue, List, length, nat_eq};
 ghost use Rattle.traceql_tokens.specs.Printed.{ReadsToken, ReadsParen, ReadsSpace, ReadsEnd};
@@ -143,7 +143,7 @@ fn listed(alloc: Global, words: &[Word], text: &str) -> Result<Vec<Token>, Memor
 }
 
 /// The tokens of a text, each with the place of its first byte. A byte that begins no token is the last of them. It
-/// fails only for want of memory.
+/// fails only if memory runs out.
 pub fn tokens(alloc: Global, text: &str) -> Result<Tokens, Memory>
     ensures found { IfOk result (λ ts. AreTokens 0 text.now ts) }
     ensures only { (ts : List Token) → AreTokens 0 text.now ts → IfOk result (λ us. us ≡ ts) }
@@ -153,7 +153,7 @@ pub fn tokens(alloc: Global, text: &str) -> Result<Tokens, Memory>
 }
 
 /// The tokens of the text of a metrics query, which has the words `rate` and `count_over_time` besides. It fails only
-/// for want of memory.
+/// if memory runs out.
 pub fn metrics_tokens(alloc: Global, text: &str) -> Result<Tokens, Memory>
     ensures found { IfOk result (λ ts. AreTokensOf METRICS_WORDS 0 text.now ts) }
     ensures only { (ts : List Token) → AreTokensOf METRICS_WORDS 0 text.now ts → IfOk result (λ us. us ≡ ts) }

@@ -1,4 +1,4 @@
-//! Numbers and durations.
+//! Numbers and durations: bytes to a token, with sums in decimal digits, so that no rounding comes between.
 
 ghost use Rattle.std.specs.Prelude.{◌≡◌, ◌==◌, ◌+◌, ◌-◌, ◌*◌, ◌^◌, ◌<◌, ◌≤◌, ℕ, List, [], ◌∷◌, ◌++◌, All, IfOk, IfSome, OnOk, length, fold, min, slice_index, option_map};
 ghost use Rattle.std.specs.List.{list_all};
@@ -16,7 +16,7 @@ use std::alloc::Global;
 /// The least number that is out of range, 2^63.
 const OUT_OF_RANGE: u64 = 0x8000_0000_0000_0000;
 
-/// A part of a duration: digits, the digits behind its dot or none, and a unit; and how many bytes it has.
+/// A part of a duration: digits, the digits after its dot or none, and a unit; and how many bytes it has.
 #[derive(Clone, Copy)]
 struct Part<'a> {
     whole: &'a [u8],
@@ -25,7 +25,7 @@ struct Part<'a> {
     len: usize,
 }
 
-/// The digits that the bytes begin with, and the bytes behind them.
+/// The digits that the bytes begin with, and the bytes after them.
 #[tactic(auto, using(crate::proofs::NumberSteps::digit_facts))]
 fn digits_at(bytes: &[u8]) -> (&[u8], &[u8])
     ensures digits { result.0.now ≡ whole_at bytes.now }
@@ -35,7 +35,7 @@ fn digits_at(bytes: &[u8]) -> (&[u8], &[u8])
     bytes.split_at(digits_len(bytes))
 }
 
-/// The digits behind a dot that the bytes begin with, or none, and the bytes behind them.
+/// The digits after a dot that the bytes begin with, or none, and the bytes after them.
 #[tactic(auto, using(crate::proofs::NumberSteps::fraction_facts))]
 fn fraction_at(bytes: &[u8]) -> (&[u8], &[u8])
     ensures digits { result.0.now ≡ fraction_at bytes.now }
@@ -90,7 +90,7 @@ fn capped(digits: &[u8]) -> u64
     number
 }
 
-/// Adds the fraction of a part to columns of decimal digits, the first behind the dot of the sum first. What is
+/// Adds the fraction of a part to columns of decimal digits, the first after the dot of the sum first. What is
 /// carried out of the first column is returned: whole nanoseconds.
 fn add_fraction(columns: &mut [u8], fraction: &[u8], nanos: u64) -> u64
     requires columns { AreColumns columns.old }
@@ -120,7 +120,7 @@ fn all_zero(columns: &[u8]) -> bool
     columns.iter().all(|digit| *digit == 0)
 }
 
-/// The sum of parts of a duration: whole nanoseconds, which stand still at 2^63, and the decimal digits of what is
+/// The sum of parts of a duration: whole nanoseconds, which saturate at 2^63, and the decimal digits of what is
 /// left, as many as the longest fraction has.
 #[derive(Drop)]
 struct Sum {

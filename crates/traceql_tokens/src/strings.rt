@@ -1,4 +1,4 @@
-//! String literals.
+//! String literals: from the text between quotes to the text that they stand for.
 
 ghost use Rattle.std.specs.Prelude.{◌≡◌, ◌+◌, ◌^◌, ◌<◌, IfOk, IfSome, None, length, string_bytes};
 ghost use Rattle.std.specs.List.{filter_map, prefix_len};
@@ -27,7 +27,8 @@ fn escaped(byte: u8) -> Option<char>
     }
 }
 
-/// How many bytes stand before the closing quote. Where there is none these are all bytes, but not a backslash at their end.
+/// How many bytes stand before the closing quote. Where there is none these are all bytes, but not a backslash at
+/// their end.
 #[tactic(auto, using(crate::proofs::StringSteps::piece_steps))]
 fn body_len(bytes: &[u8]) -> usize
     ensures { result ≡ body_len bytes.now }
@@ -100,7 +101,7 @@ fn decoded(alloc: Global, body: &str) -> Result<String, Memory>
     }
 }
 
-/// A string from behind its double quote, which has the place `at`, and how many bytes it has with its quotes.
+/// A string after its double quote, which has the place `at`, and how many bytes it has with its quotes.
 #[tactic(auto, using(crate::proofs::StringCases::quoted_cases))]
 fn quoted_at(alloc: Global, body: &str, at: usize) -> Result<(Value, usize), Memory>
     requires { at + length body.now < 2 ^ 63 }
@@ -121,7 +122,7 @@ fn quoted_at(alloc: Global, body: &str, at: usize) -> Result<(Value, usize), Mem
     Ok((value, len + 2))
 }
 
-/// A string from behind its backquote, which has the place `at`, and how many bytes it has with its quotes.
+/// A string after its backquote, which has the place `at`, and how many bytes it has with its quotes.
 #[tactic(auto, using(crate::proofs::StringCases::raw_cases))]
 fn raw_at(alloc: Global, body: &str, at: usize) -> Result<(Value, usize), Memory>
     requires { at + length body.now < 2 ^ 63 }

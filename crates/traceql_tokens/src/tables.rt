@@ -1,4 +1,4 @@
-//! The tables of the tokens whose text is fixed.
+//! The tables of the tokens whose text is fixed, and which of them bytes begin with.
 
 ghost use Rattle.std.specs.Prelude.{◌≡◌, nat_eq, Option};
 ghost use Rattle.std.specs.List.{find, starts_with};

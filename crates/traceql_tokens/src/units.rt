@@ -1,4 +1,4 @@
-//! The units of durations.
+//! The units of durations, with their texts and their nanoseconds.
 
 ghost use Rattle.std.specs.Prelude.{◌≡◌};
 ghost use Rattle.traceql_tokens.specs.Fixed.{unit_text, unit_nanos};

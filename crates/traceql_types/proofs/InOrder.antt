@@ -136,7 +136,7 @@ query_among (rule.piped {q = q} {s = s} {xs = xs} {ys = ys} at d f) =
 pub reads_ascend : (depth : ℕ) (text : List ℕ) (q : QueryTree) → Reads depth text q → Ascends (asked_patterns q)
 reads_ascend depth text q r = ascends (query_among r.spelled) (rises query_words word_order 0 text r.tokens r.lexed).1
 
--- The patterns of the query that is run for a metrics query stand among its tokens, those of `by` behind the others.
+-- The patterns of the query that is run for a metrics query stand among its tokens, those of `by` after the others.
 metrics_among : {n : ℕ} {m : MetricsTree} {ts : List Token} → SpellsMetrics n m ts → Among (asked_patterns (run_query m.query m.by)) ts
 metrics_among (rule.whole bar at opened closed w h d) = longer _ (query_among d)
 metrics_among (rule.split {q = q} {e = e} {xs = xs} {ys = ys} bar at opened closed by by_opened by_closed w h d f) =

@@ -1,4 +1,4 @@
--- What a query is refused for its kinds is no refusal of a pattern and no want of memory.
+-- What a query is refused for its kinds is neither a refusal of a pattern nor out of memory.
 use Rattle.std.proofs.Common.{ℕ, List, [], ◌∷◌, ◌++◌, Option, Some, None, Bool, true, false}
 use Rattle.std.specs.Prelude.{All, IfSome, if◌then◌else◌}
 use Rattle.std.specs.List.{flat_map}

@@ -27,7 +27,7 @@ abbrev pub AskedAt : QueryTree → ℕ → (List ℕ → Type 0) → Type 0
 AskedAt q at P = (m : PlacedText) × Contains (asked_patterns q) m × (m.0 ≡ at) × P m.1
 
 -- Why a query is refused: for its kinds; for a text that is no pattern; or for a pattern whose text the maker refused.
--- Want of memory is always a cause.
+-- Out of memory is always a cause.
 abbrev pub HasCause : QueryTree → (List ℕ → Type 0) → TypeError → Type 0
 HasCause q Refused (BadPattern at) = AskedAt q at IsNoPattern
 HasCause q Refused (PatternTooBig at) = AskedAt q at Refused
@@ -66,7 +66,7 @@ IsLastCall Memory rest last = ⊥
 IsLastCall e rest last = last ≡ []
 
 -- The calls that lead to a refusal: every pattern before its place was asked for, in order, and made; then the pattern at
--- its place, if the refusal is of one; and none behind it.
+-- its place, if the refusal is of one; and none after it.
 pub record LeadsTo (patterns : List PlacedText) (e : TypeError) (calls : List Call) : Type 0 where
   pub front : List PlacedText
   pub rest : List PlacedText

@@ -8,11 +8,11 @@ use Rattle.traceql_types.specs.declared.pattern.Pattern.{Pattern}
 use Rattle.traceql_types.specs.Patterns.{pattern_text}
 use Rattle.traceql_types.specs.Whole.{whole_text, IsReadable, IsNoPattern}
 
--- one more, in a count of 64 bits that stands still at its end
+-- one more, in a count of 64 bits that saturates at its end
 abbrev pub counted_up : ℕ → ℕ
 counted_up n = min (n + 1) (2 ^ 64 - 1)
 
--- the cause of a refusal by `regex`: all but faults of the text and want of memory are refusals
+-- the cause of a refusal by `regex`: all but faults of the text and running out of memory are refusals
 abbrev pub cause_of_error : Error → MakeError
 cause_of_error (cause.Syntax e) = error.Syntax
 cause_of_error cause.OutOfMemory = error.Memory

@@ -1,4 +1,4 @@
-//! The patterns that a query asks for.
+//! The patterns that a query asks for: from its tree to their places and strings, in the text's order.
 
 ghost use Rattle.std.specs.Prelude.{◌≡◌, ◌++◌, ℕ, List, map, OnOk, IfOk};
 ghost use Rattle.std.specs.List.{flat_map};
@@ -116,7 +116,7 @@ fn add_stages<'a>(stages: &'a Stages, found: &mut Vec<Asked<'a>>) -> Result<(), 
     Ok(())
 }
 
-/// The patterns that a query asks for, one for each `=~` and `!~`, in the text's order. The one error is want of memory.
+/// The patterns that a query asks for, one for each `=~` and `!~`, in the text's order. The one error is out of memory.
 pub fn patterns_of(alloc: Global, query: &Query) -> Result<Vec<Asked<'_>>, Memory>
     ensures { IfOk result (λ found. shown_all found.items ≡ asked_patterns (query_tree query.now)) }
 {
@@ -126,8 +126,8 @@ pub fn patterns_of(alloc: Global, query: &Query) -> Result<Vec<Asked<'_>>, Memor
     Ok(found)
 }
 
-/// The patterns of a query that was read from a text stand in the text's order: a law, which the clause of `check` on what
-/// its maker was asked for rests on.
+/// The patterns of a query that was read from a text stand in the text's order: a law, which the clause of `check` on
+/// what its maker was asked for rests on.
 pub fn patterns_in_order()
     ensures { (depth : ℕ) (text : List ℕ) (q : QueryTree) → Reads depth text q → Ascends (asked_patterns q) }
 {}

@@ -1,4 +1,4 @@
-//! Kinds and patterns of a query at once.
+//! The entry point: kinds and patterns of a query at once.
 
 ghost use Rattle.std.specs.Prelude.{◌≡◌, ℕ, List, [], IfOk, IfErr, MatchResult, IsTrue, ◌↔◌, IsSomeAnd};
 ghost use Rattle.traceql_syntax.specs.Trees.{query_tree};
@@ -93,8 +93,8 @@ fn make_all<P: PatternMaker>(
 }
 
 /// Tests the kinds of a query and makes its patterns. Of several refusals the one of the earliest place is given,
-/// whether it is for kinds or for a pattern. The maker is asked for the patterns in the text's order, up to the first that
-/// it refuses, and for none behind a refusal.
+/// whether it is for kinds or for a pattern. The maker is asked for the patterns in the text's order, up to the first
+/// that it refuses, and for none after a refusal.
 pub fn check<P: PatternMaker>(
     alloc: Global,
     query: Query,

@@ -1,4 +1,4 @@
-//! What an expression is refused for its kinds.
+//! What an expression is refused for its kinds, from its parts up: the earliest refusal stands.
 
 ghost use Rattle.std.specs.Prelude.{◌≡◌, List, ◌++◌, IsTrue, ◌↔◌};
 ghost use Rattle.traceql_syntax.specs.Trees.{tree, placed};
@@ -13,7 +13,7 @@ use traceql_syntax::{BinaryOp, Comparison, FieldExpr, Literal, Operand, UnaryOp}
 impl TypeError {
     ghost use Rattle.traceql_types.specs.Order.{place, number};
 
-    // Where the refusal stands; want of memory stands before the text.
+    // Where the refusal stands; being out of memory stands before the text.
     pub(crate) fn place(self) -> u64
         ensures { result ≡ place self }
     {

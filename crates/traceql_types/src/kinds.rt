@@ -26,7 +26,7 @@ pub enum Kind {
     SpanKind,
 }
 
-// The kind of a literal.
+// A duration is a number, of nanoseconds.
 fn literal_kind(literal: &Literal) -> Kind
     ensures { result ≡ kind_of_literal literal.now }
 {
@@ -40,7 +40,7 @@ fn literal_kind(literal: &Literal) -> Kind
     }
 }
 
-// The kind of an intrinsic.
+// An intrinsic has the one kind of all its values; ids are texts of hexadecimal digits.
 fn intrinsic_kind(intrinsic: Intrinsic) -> Kind
     ensures { result ≡ kind_of_intrinsic intrinsic }
 {
@@ -67,7 +67,7 @@ fn intrinsic_kind(intrinsic: Intrinsic) -> Kind
     }
 }
 
-// The kind of a field.
+// An attribute has whatever kind was sent, so nothing is known of it.
 fn field_kind(field: &Field) -> Kind
     ensures { result ≡ kind_of_field field.now }
 {

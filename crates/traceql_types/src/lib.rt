@@ -1,5 +1,11 @@
 //! Kinds and patterns of TraceQL: which queries make sense before any span is looked at.
 //!
+//! - `checked` has the entry point, `check`: kinds are tested and patterns made, and of several refusals the earliest
+//!   is given.
+//! - Kinds: `kinds` (what is known of an expression's kind), `expressions` and `queries` (what is refused).
+//! - Patterns: `asked` (which strings a query asks for), `maker` (what compiles them), `pattern`.
+//! - `errors` is why a query is refused; `shared` says that a checked query may go to another thread.
+//!
 //! `specs/Kinds.antt` says what is known of an expression's kind, `specs/Refusals.antt` what is refused for its kind,
 //! and `specs/Checks.antt` what an answer of `check` is.
 #![tactic(auto)]

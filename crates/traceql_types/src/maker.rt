@@ -12,7 +12,8 @@ use span_types::{Calls, Text};
 use std::alloc::{AllocError, Global};
 use std::marker::Model;
 
-/// Makes patterns of texts. A pattern is what `regex` reads in the text put between `\A(?:` and `)\z`, as `Pattern` says.
+/// Makes patterns of texts. A pattern is what `regex` reads in the text put between `\A(?:` and `)\z`, as `Pattern`
+/// says.
 pub trait PatternMaker {
     // Which call, a text with its answer, leads from which state of the maker to which.
     ghost makes: { Makes Self };
@@ -118,7 +119,7 @@ impl RegexMaker {
         RegexMaker { alloc, refusals: 0 }
     }
 
-    /// How many patterns were refused so far. The count stands still at its type's end.
+    /// How many patterns were refused so far. The count saturates at its type's end.
     pub fn refusals(&self) -> u64
         ensures { result ≡ self.now }
     {
@@ -177,7 +178,7 @@ impl ScriptedMaker {
         }
     }
 
-    /// How many patterns were refused so far, those that the `RegexMaker` refused among them. The count stands still at
+    /// How many patterns were refused so far, those that the `RegexMaker` refused among them. The count saturates at
     /// its type's end.
     pub fn refusals(&self) -> u64
         ensures { result ≡ self.now.refusals }

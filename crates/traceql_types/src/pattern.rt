@@ -1,4 +1,4 @@
-//! Patterns of whole texts.
+//! Patterns of whole texts, compiled, and what searches by them.
 
 ghost use Rattle.std.specs.Prelude.{◌≡◌, IfOk};
 ghost use Rattle.regex.specs.Patterns.{default_config};

@@ -1,4 +1,4 @@
-//! What a query is refused for its kinds.
+//! What a query is refused for its kinds: filters, stages and aggregates, each by its expressions.
 
 ghost use Rattle.std.specs.Prelude.{◌≡◌, map};
 ghost use Rattle.std.specs.List.{flat_map};

@@ -1,4 +1,4 @@
-//! Checked queries among threads.
+//! Checked queries among threads: that their type may be handed from one to another. Nothing here runs in the program.
 
 ghost use Rattle.traceql_types.specs.Shared.{CheckedIsSend, CheckedIsSync};
 

@@ -4,7 +4,7 @@ use Rattle.std.specs.Ordering.{is_gt}
 use Rattle.span_types.specs.declared.spans.Row.{Row}
 use Rattle.span_types.specs.Orders.{trace_order}
 
--- The root is one of the spans without a parent, and comes behind none of them in trace order.
+-- The root is one of the spans without a parent, and comes after none of them in trace order.
 pub record IsRoot (rows : List Row) (root : Row) : Type 0 where
   pub member : Contains rows root
   pub parentless : root.span.parent ≡ None

@@ -1,4 +1,4 @@
-//! A trace and a query's patterns, ready to evaluate.
+//! The entry point: a trace and a query's patterns, ready to evaluate expressions for its spans.
 
 ghost use Rattle.std.specs.Prelude.{◌≡◌, ◌<◌, IfOk, IfSome, length, slice_get};
 ghost use Rattle.traceql_syntax.specs.Trees.{tree};
@@ -18,8 +18,8 @@ use std::alloc::Global;
 use traceql_syntax::{Field, FieldExpr};
 use traceql_types::Checked;
 
-/// A trace, and a query's matchers: what is computed once and not for each span. `leave` gives the matchers back, for the
-/// next trace's context.
+/// A trace, and a query's matchers: what is computed once and not for each span. `leave` gives the matchers back, for
+/// the next trace's context.
 #[derive(Drop)]
 pub struct EvalContext<'q, 'a> {
     alloc: Global,
@@ -142,8 +142,8 @@ impl<'q, 'a> EvalContext<'q, 'a> {
     }
 }
 
-/// What an expression is for the span at this position of a trace. Of the whole trace only what the expression asks for is
-/// computed: its root, or how long it lasts.
+/// What an expression is for the span at this position of a trace. Of the whole trace only what the expression asks
+/// for is computed: its root, or how long it lasts.
 pub fn field_value(
     alloc: Global,
     expr: &FieldExpr,

@@ -1,4 +1,4 @@
-//! The greatest common divisor.
+//! The greatest common divisor, by which fractions are brought to lowest terms.
 
 ghost use Rattle.std.specs.Prelude.{◌<◌};
 ghost use Rattle.std.specs.Int.{IsGcd};

@@ -15,8 +15,8 @@ use span_types::{Memory, Span};
 use std::alloc::Global;
 use traceql_syntax::{BinaryOp, FieldExpr, Literal};
 
-/// How many operators, each the left operand of the next, are evaluated by recursion. The others of a longer chain, and a
-/// query's text has room for thousands, are kept in a list: so a chain needs no more stack than this many.
+/// How many operators, each the left operand of the next, are evaluated by recursion. The others of a longer chain,
+/// and a query's text has room for thousands, are kept in a list: so a chain needs no more stack than this many.
 pub(crate) const RECURSION: u32 = 32;
 
 /// A binary operator whose left operand is evaluated.

@@ -1,4 +1,5 @@
-//! What fields are for a span.
+//! What fields are for a span: attributes, and the values of which `trace` makes intrinsics, looked at where they
+//! stand.
 
 ghost use Rattle.std.specs.Prelude.{◌≡◌, IfOk, option_map};
 ghost use Rattle.traceql_value.specs.ValueRef.{ref_value};

@@ -1,4 +1,7 @@
-//! Laws about ratios, values, patterns and whole traces.
+//! Theorems about ratios, the order of values, patterns and whole traces.
+//!
+//! Each function has an empty body: its contract is the statement, and its proof stands in `proofs/laws/`. Nothing
+//! calls them; proofs of `spanset_eval` and `traceql_metrics` cite the lemmas about the order.
 
 ghost use Rattle.std.specs.Prelude.{◌≡◌, ◌≢◌, ◌+◌, List, [], None, All, Contains, IfSome, pos, ◌*ℤ◌};
 ghost use Rattle.std.specs.Cmp.{IsTotalOrder, IsStrictWeakOrder};
@@ -33,8 +36,8 @@ pub fn whole_without_division()
     ensures { (ps : List Pattern) (rows : List Row) (s : Span) (e : Tree) → divisions e ≡ [] → IfNumber (value_of ps rows s e) IsWhole }
 {}
 
-/// Each string that a checked query asks for is answered by a pattern of the query: `regex` reads it in the string between
-/// `\A(?:` and `)\z`, and the string matches a text exactly where that reading finds a match.
+/// Each string that a checked query asks for is answered by a pattern of the query: `regex` reads it in the string
+/// between `\A(?:` and `)\z`, and the string matches a text exactly where that reading finds a match.
 pub fn strings_are_answered()
     ensures { (c : Checked) → All (λ asked. IsAnswered c.patterns asked.1) (asked_patterns (query_tree c.query)) }
 {}
@@ -47,8 +50,8 @@ pub fn root_is_first()
     ensures one { (rows : List Row) (a b : Row) → IsRoot rows a → IsRoot rows b → a.span.id ≡ b.span.id }
 {}
 
-/// A trace starts at the least of its spans' starts, and ends at the greatest of their starts and ends; it lasts from the
-/// one to the other.
+/// A trace starts at the least of its spans' starts, and ends at the greatest of their starts and ends; it lasts from
+/// the one to the other.
 pub fn trace_is_bounded()
     ensures start { (rows : List Row) → rows ≢ [] → IsStart rows (start_of rows) }
     ensures end { (rows : List Row) → rows ≢ [] → IsEnd rows (latest rows) }

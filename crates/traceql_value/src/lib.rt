@@ -1,8 +1,18 @@
 //! The values that TraceQL's field expressions have.
 //!
 //! Numbers are exact fractions: a [`Ratio`] has a numerator of 64 signed bits and a denominator from 1 to 2^63 - 1, in
-//! lowest terms. A result outside of these bounds is no value. An [`EvalContext`] says what an expression is for a span of one
-//! trace. [`Matchers`] are made once for a query, and lent to one trace's context after another.
+//! lowest terms. A result outside of these bounds is no value. An [`EvalContext`] says what an expression is for a
+//! span of one trace. [`Matchers`] are made once for a query, and lent to one trace's context after another.
+//!
+//! - The entry points: `context` (a trace and a query's matchers) and `matchers` (a query's patterns, ready to
+//!   search).
+//! - Evaluating: `evaluate` (expressions), `operators`, `fields` (what a span has), `trace` and `whole` (what a trace
+//!   has as a whole).
+//! - Values: `value` (of its own), `value_ref` (looked at where it stands), `order`, and `ratio` with `divisor` and
+//!   `power`.
+//! - `laws` holds theorems.
+//!
+//! What an expression is for a span is defined in `specs/Meaning.antt`; `docs/TRACEQL.md` has it in words.
 #![tactic(auto)]
 
 mod context;

@@ -25,11 +25,11 @@ pub(crate) struct Search<'a> {
     pub(crate) matcher: Matcher<'a>,
 }
 
-/// A query's patterns, and what searches for each string of them: made once for a query, and lent to one trace's context
-/// after another.
+/// A query's patterns, and what searches for each string of them: made once for a query, and lent to one trace's
+/// context after another.
 ///
-/// A match's search is found by the place of its string in the query. A tree that isn't the query's, or that was made by
-/// hand and has two strings at one place, may lead to another string's search: then it is found by its string.
+/// A match's search is found by the place of its string in the query. A tree that isn't the query's, or that was made
+/// by hand and has two strings at one place, may lead to another string's search: then it is found by its string.
 #[derive(Drop)]
 pub struct Matchers<'a> {
     pub(crate) patterns: &'a [Pattern],
@@ -104,8 +104,8 @@ fn is_match(searches: &mut Vec<Search<'_>>, number: Option<usize>, text: &str) -
 impl<'a> Matchers<'a> {
     ghost use Rattle.traceql_value.specs.EvalContexts.{matchers_patterns, AreFoundByPlace};
 
-    /// Makes what searches for a query's patterns: one search for each string, however often the query asks for it. In a
-    /// query whose patterns stand in the text's order, as in every one that was parsed, each is found by its place.
+    /// Makes what searches for a query's patterns: one search for each string, however often the query asks for it. In
+    /// a query whose patterns stand in the text's order, as in every one that was parsed, each is found by its place.
     pub fn of(alloc: Global, checked: &'a Checked) -> Result<Matchers<'a>, Memory>
         ensures patterns { IfOk result (λ s. matchers_patterns s ≡ checked.now.patterns) }
         ensures placed { IfOk result (λ s. Ascends (asked_patterns (query_tree checked.now.query))
@@ -136,8 +136,8 @@ impl<'a> Matchers<'a> {
         }
     }
 
-    // The number of the search for the string that stands at this place of the query: the one to which the place leads, and
-    // else, where that is another string's, the one to which the string leads.
+    // The number of the search for the string that stands at this place of the query: the one to which the place
+    // leads, and else, where that is another string's, the one to which the string leads.
     fn number_of(&self, at: u64, string: &str) -> Option<usize>
         ensures { (text : List ℕ) → found_at (all_known self.now.searches.items) result text
             ≡ matches self.now.patterns.now string.now text }

@@ -1,4 +1,4 @@
-//! What operators make of values.
+//! What operators make of values: comparisons, arithmetic and logic, of operands that are evaluated.
 
 ghost use Rattle.std.specs.Prelude.{◌≡◌, Bool, IfSome};
 ghost use Rattle.traceql_value.specs.Meaning.{tests_nil, apply_binary, decide_by_left};

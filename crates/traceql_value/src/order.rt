@@ -1,4 +1,4 @@
-//! The order of values in a grouping.
+//! The order of values, in which `by` splits and series are sorted.
 
 ghost use Rattle.std.specs.Prelude.{◌≡◌};
 ghost use Rattle.std.specs.Cmp.Lexicographic.{slice_cmp};

@@ -1,4 +1,4 @@
-//! Powers of whole numbers.
+//! Powers of whole numbers, for the operator `^`.
 
 ghost use Rattle.std.specs.Prelude.{FitsSigned};
 ghost use Rattle.std.specs.Int.{w64, int_pow};

@@ -1,4 +1,4 @@
-//! Exact fractions.
+//! Exact fractions, and their arithmetic within 64 bits.
 
 ghost use Rattle.std.specs.Prelude.{◌≡◌, ◌≢◌, ℤ, pos, ◌*ℤ◌, neg_ℤ, ◌<◌, ◌≤◌, ◌-◌, ◌*◌, ◌^◌, unsigned_abs, int_rem, FitsSigned, IfSome, IfNone, IsNone};
 ghost use Rattle.std.specs.Int.{w64};
@@ -158,8 +158,8 @@ impl Ratio {
         Some(Ratio::whole(self.numerator.wrapping_rem(other.numerator)))
     }
 
-    /// The power of whole numbers; the power 0 is 1. `None` where one isn't whole, where the exponent is negative, or where
-    /// the power is outside of the bounds.
+    /// The power of whole numbers; the power 0 is 1. `None` where one isn't whole, where the exponent is negative, or
+    /// where the power is outside of the bounds.
     pub fn pow(self, other: Ratio) -> Option<Ratio>
         ensures value { SomeIff result (HavePower self other × FitsSigned w64 (power_of self other)) (whole_fraction (power_of self other)) }
         ensures ratio { IfSome result IsRatio }

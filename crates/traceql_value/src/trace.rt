@@ -1,4 +1,4 @@
-//! A trace, with what is computed once for it.
+//! A trace, with what is computed once for it, and what intrinsics are for its spans.
 
 ghost use Rattle.std.specs.Prelude.{◌≡◌, IfOk, IfSome, option_map};
 ghost use Rattle.std.specs.Option.{option_map_or};

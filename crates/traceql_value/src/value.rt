@@ -1,4 +1,4 @@
-//! Values of field expressions.
+//! Values of field expressions, each with memory of its own: what results show.
 
 use crate::Ratio;
 use span_types::{Memory, Seq, SpanKind, StatusCode, Text, TryCopy};

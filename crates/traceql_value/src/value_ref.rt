@@ -1,4 +1,4 @@
-//! Values that are looked at where they stand.
+//! Values that are looked at where they stand: what evaluating works on, so that no text is copied for a test.
 
 ghost use Rattle.std.specs.Prelude.{◌≡◌, IfOk};
 ghost use Rattle.traceql_value.specs.Values.{kind_rank, value_cmp, whole_of};
@@ -98,8 +98,8 @@ impl<'s> ValueRef<'s> {
         }
     }
 
-    /// Which of two values stands first: nil, then false and true, numbers, texts by their bytes, statuses and roles. It
-    /// is a total order, so values can be sorted by it.
+    /// Which of two values stands first: nil, then false and true, numbers, texts by their bytes, statuses and roles.
+    /// It is a total order, so values can be sorted by it.
     pub fn order(&self, other: &ValueRef<'_>) -> Ordering
         ensures { result ≡ value_cmp (ref_value self.now) (ref_value other.now) }
     {

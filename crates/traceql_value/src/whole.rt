@@ -1,4 +1,4 @@
-//! What a trace is as a whole.
+//! What a trace is as a whole: its root, its start and its end, from all rows.
 
 ghost use Rattle.std.specs.Prelude.{◌≡◌, option_map};
 ghost use Rattle.span_types.specs.Orders.{trace_order};
@@ -24,7 +24,7 @@ fn trace_order(left: &Row, right: &Row) -> Ordering
         .then(left.span.id.cmp(&right.span.id))
 }
 
-// The root among a row and the rows behind it.
+// The root among a row and the rows after it.
 fn choose_root<'a>(row: &'a Row, rest: Option<&'a Row>) -> Option<&'a Row>
     ensures { option_map (λ r. r.now) result ≡ choose_root row.now.span.parent row.now (option_map (λ r. r.now) rest.entry) }
 {

@@ -1,5 +1,5 @@
-//! The program: `vurnda FOLDER WORD ..` is one call over the real objects, on the store that lies in the folder, and ends with
-//! its status.
+//! The program: `vurnda FOLDER WORD ..` is one call over the real objects, on the store that lies in the folder, and
+//! ends with its status.
 #![tactic(auto)]
 
 use folder_disk::{FolderDisk, SystemClock};
