@@ -1,5 +1,5 @@
 -- What a seat shows as a port.
-use Rattle.std.specs.Prelude.{◌≡◌, ℕ, ◌+◌, Bool, true, false, List, [], ◌∷◌, ◌++◌, Contains, Option, Some, None, if◌then◌else◌, length, IsTrue}
+use Rattle.std.specs.Prelude.{◌≡◌, ℕ, ◌+◌, ◌-◌, ◌^◌, Bool, true, false, ◌&&◌, ◌||◌, nat_le, nat_lt, List, [], ◌∷◌, ◌++◌, Contains, Option, Some, None, if◌then◌else◌, length, IsTrue}
 use Rattle.atomic_table.specs.Seated.{TableId}
 use Rattle.store_model.specs.Event.{Event, Reply}
 use Rattle.store_model.specs.Event.Event.{Push, BeginFlush, BeginCompact, WritePiece, CommitFlush, CommitCompact, Reclaim}
@@ -26,10 +26,14 @@ abbrev pub is_fault : Reply → Bool
 is_fault (Refused Fault) = true
 is_fault _ = false
 
--- a port's count of faults rises in a call, or stands at its last value, just where it answers a fault
+-- A port's count of faults rose in a call; or it stood at its last value, where it can't rise, and the call answered a fault.
+abbrev pub has_risen : (before after : ℕ) → Reply → Bool
+has_risen before after reply = nat_lt before after || (nat_le (2 ^ 64 - 1) after && is_fault reply)
+
+-- in so many calls the port's count did so
 abbrev pub faults_in : List Entry → ℕ
 faults_in [] = 0
-faults_in (e ∷ es) = one (is_fault e.reply) + faults_in es
+faults_in (e ∷ es) = one (has_risen e.before e.after e.reply) + faults_in es
 
 abbrev pub reads_in : List Entry → ℕ
 reads_in [] = 0
