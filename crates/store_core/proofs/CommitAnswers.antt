@@ -19,8 +19,8 @@ use Rattle.store_model.specs.Holds.{IsOpenFlush}
 use Rattle.store_model.specs.Step.{Machine, broken}
 use Rattle.store_state.specs.Listed.{segment_of}
 use Rattle.store_state.specs.Written.{NamesJob, IsBlockOf}
-use Rattle.store_core.specs.Jobs.{ShowsFlush, IsSpare, one_if, files_of_compaction}
-use Rattle.store_core.specs.NextList.{IsNextList, length_of, next_floor}
+use Rattle.store_core.specs.Jobs.{SameFlush, SameJobs, one_if, open_jobs, files_of_compaction}
+use Rattle.store_core.specs.NextList.{IsNextList, flush_edit, length_of, next_floor}
 use Rattle.store_core.specs.declared.jobs.OpenFlush.{OpenFlush}
 use Rattle.store_core.specs.declared.state.CoreState.{CoreState}
 use Rattle.store_core.specs.declared.store.Core.{Core}
@@ -30,8 +30,11 @@ use Rattle.store_model.proofs.FirstsExist.{firsts_exist}
 use Rattle.store_core.proofs.CommitEnds.{IsDecided, true_or_not}
 use Rattle.store_core.proofs.FlushCommits.{Commits, meets_rules}
 use Rattle.store_core.proofs.CommitStates.{TookOver}
+use Rattle.store_core.proofs.NextTaken.{flush_loose}
 use Rattle.store_core.proofs.OpenJobs.{IsOpenHere, open_here}
-use Rattle.store_core.proofs.RoomLeft.{one_of_compaction}
+use Rattle.store_core.proofs.JobRooms.{same_compaction}
+use Rattle.store_core.proofs.RoomLeft.{loose_within, one_of_compaction}
+use Rattle.store_core.proofs.States.{has_stopped_with}
 
 -- a block has as many rows as its information says
 pub counted_by : (info : InfoParts) (bytes : List ℕ) (rows : List Row) → BlockHasInfo info bytes rows → info.rows ≡ length rows
@@ -114,38 +117,17 @@ pub next_generation : (core : CoreState) (mine : OpenFlush) (count : ℕ) (list 
 next_generation core mine count list known next =
     let its : IsNextList core mine.files count list = subst (λ (k : Option OpenFlush). IfSome k (λ x. IsNextList core x.files count list)) known next in its.generation
 
-pub has_spent : (core : CoreState) (mine : OpenFlush) (faults : ℕ) (m : Machine) → core.jobs.flush ≡ Some mine → HasState core m → HasState (record (spent core mine) { read_only = Some faults }) (broken faults m)
-has_spent core mine faults m known has = record {
-  count = has.count;
-  few = has.few;
-  live = has.live;
-  head = has.head;
-  flushing = has.flushing;
-  flush = subst (λ (k : Option OpenFlush). ShowsFlush k m.state.flush) known has.flush;
-  compaction = has.compaction;
-  blocks = has.blocks;
-  infos = has.infos;
-  listed = has.listed;
-  commit = λ none. absurd (let bad : Some faults ≡ None = none in cc);
-  rules = has.rules;
-  segments = has.segments;
-  last = has.last;
-  floor = has.floor;
-  loose = has.loose;
-  next_file = has.next_file;
-  begun = has.begun;
-  jobs = record {
-    given = has.jobs.given;
-    flush = subst (λ (k : Option OpenFlush). IfSome k (λ x. IsSpare core.list x.files.block × IsSpare core.list x.files.segment)) known has.jobs.flush;
-    compaction = has.jobs.compaction;
-    level = has.jobs.level;
-    room = λ some. let one : one_if core.jobs.flush ≡ 1 = ap (λ (o : Option OpenFlush). one_if o) known in let fits = has.jobs.room (omega (arith, one)) in omega (arith, one, fits);
-  };
-  used = has.used;
-  pins = has.pins;
-  pinned = has.pinned;
-  read_only = refl;
-}
+has_spent : (core : CoreState) (mine : OpenFlush) (faults : ℕ) (m : Machine) → core.jobs.flush ≡ Some mine → HasState core m → HasState (record (spent core mine) { read_only = Some faults }) (broken faults m)
+has_spent core mine faults m known has = has_stopped_with core (spent core mine).jobs core.pins faults m has same (omega arith) (λ n. refl) (λ n. refl)
+  where
+    same : SameJobs core.jobs (spent core mine).jobs
+    same = record {
+      begun = refl;
+      next_file = refl;
+      loose = refl;
+      flush = subst (λ (k : Option OpenFlush). SameFlush k (Some (record mine { room = None }))) (sym known) (None, refl);
+      compaction = same_compaction core.jobs.compaction;
+    }
 
 pub has_stopped_spent : (core later : CoreState) (mine : OpenFlush) (faults : ℕ) (m : Machine) → core.jobs.flush ≡ Some mine → later ≡ spent core mine → HasState core m → HasState (record later { read_only = Some faults }) (broken faults m)
 has_stopped_spent core later mine faults m known is has =
@@ -159,13 +141,22 @@ pub other_named : (core before : CoreState) (mine : OpenFlush) (count : ℕ) (li
 other_named core before mine count list known is next =
     let its : IsNextList core mine.files count list = subst (λ (k : Option OpenFlush). IfSome k (λ x. IsNextList core x.files count list)) known next in
     let front : List ℕ = core.jobs.loose.items ++ released (next_floor core) (map segment_of (core.list.segments ++ record { file = mine.files.segment; first = length_of core } ∷ [])) in
-    let named = ap (λ (l : List ℕ). length l) its.its_loose in
+    let named = ap (λ (l : List ℕ). length l) (flush_loose core mine.files count list its) in
     let joined = length-append front (files_of_compaction core.jobs.compaction) in
     let file = one_of_compaction core.jobs.compaction in
     subst (λ (x : CoreState). one_if x.jobs.compaction ≤ length list.loose) (sym is) (omega (arith, named, joined, file))
 
+-- and so many loose files have room
+pub loose_fits : (core before : CoreState) (mine : OpenFlush) (count : ℕ) (list : ListBody) (m : Machine) → HasState core m → core.jobs.flush ≡ Some mine → before ≡ spent core mine
+    → IfSome core.jobs.flush (λ known. IsNextList core known.files count list) → length list.loose ≤ vec_capacity before.jobs.loose
+loose_fits core before mine count list m has known is next =
+    let its : IsNextList core mine.files count list = subst (λ (k : Option OpenFlush). IfSome k (λ x. IsNextList core x.files count list)) known next in
+    let one : one_if core.jobs.flush ≡ 1 = ap (λ (o : Option OpenFlush). one_if o) known in
+    subst (λ (x : CoreState). length list.loose ≤ vec_capacity x.jobs.loose) (sym is)
+    (loose_within core.list (flush_edit core mine.files count) list (vec_len core.jobs.loose) (one_if core.jobs.compaction) (open_jobs core.jobs) (vec_capacity core.jobs.loose) its (sym core.jobs.loose.ok.0)
+    (one_of_compaction core.jobs.compaction) (omega (arith, one)) (has.jobs.room (omega (arith, one))))
+
 pub took_over : (core before later : CoreState) (list : ListBody) (info : InfoParts) (m : Machine) (mine : OpenFlush) → HasState core m → core.jobs.flush ≡ Some mine → before ≡ spent core mine
-    → length list.segments + length list.loose ≡ length core.list.segments + 1 + vec_len core.jobs.loose + one_if core.jobs.compaction
     → later.list ≡ list → later.infos.items ≡ before.infos.items ++ info ∷ [] → IfSome before.jobs.flush (λ known. later.segment.file ≡ known.files.segment)
     → (later.segment.first ≡ length_of before) × (later.segment.count ≡ 0) × (later.segment.gate ≡ 1)
     → (later.jobs.flush ≡ None) × (later.jobs.compaction ≡ before.jobs.compaction) × (later.jobs.begun ≡ before.jobs.begun) × (later.jobs.next_file ≡ before.jobs.next_file)
@@ -174,7 +165,7 @@ pub took_over : (core before later : CoreState) (list : ListBody) (info : InfoPa
     → (later.live.flushing ≡ []) × (later.live.head ≡ before.live.head) × (later.live.live ≡ before.live.live)
     → (later.pins ≡ before.pins) × (later.read_only ≡ before.read_only) × (later.unsure ≡ before.unsure)
     → TookOver core later list info mine.files.segment (count_of m.history)
-took_over core before later list info m mine has known is each listing infos segment empty jobs loose room rows same = record {
+took_over core before later list info m mine has known is listing infos segment empty jobs loose room rows same = record {
   listing = listing;
   infos = infos ∙ ap (λ (x : CoreState). x.infos.items ++ info ∷ []) is;
   file_is = subst (λ (x : CoreState). IfSome x.jobs.flush (λ known. later.segment.file ≡ known.files.segment)) is segment;
@@ -187,7 +178,6 @@ took_over core before later list info m mine has known is each listing infos seg
   was_open = ap (λ (o : Option OpenFlush). one_if o) known;
   none = jobs.0;
   compaction = jobs.1 ∙ ap (λ (x : CoreState). x.jobs.compaction) is;
-  each_file = each;
   room = subst (λ (x : CoreState). vec_capacity x.jobs.loose ≤ vec_capacity later.jobs.loose) is room.0;
   info_room = subst (λ (x : CoreState). vec_capacity x.infos ≤ vec_capacity later.infos) is room.1;
   gone = rows.0;

@@ -1,16 +1,23 @@
 -- What a crash leaves at any moment of a commit: of the sync of its block, and of the writing of the list.
-use Rattle.std.proofs.Common.{◌≡◌, ℕ, ◌<◌, Some, IsTrue, sym, subst, Result, IsOk, ◌^◌}
+use Rattle.std.proofs.Common.{◌≡◌, ℕ, ◌+◌, ◌<◌, length, Option, Some, IsTrue, sym, subst, arith, Result, IsOk, ◌^◌}
 use Rattle.span_types.specs.declared.errors.Failed.{Failed}
 use Rattle.disk_model.specs.Images.{Image, bytes_of, SameBytes, Besides}
 use Rattle.disk_model.specs.Calls.{Calls}
+use Rattle.disk_model.specs.Counts.{Plain, IsOneCall}
 use Rattle.disk_model.specs.Crash.{OnlyBytes, Within, Reached, Elapses, LeavesOnly, Run}
 use Rattle.disk_model.specs.declared.disk.Device.{Ghosts}
 use Rattle.disk_model.proofs.Moments.{joined, widened, still}
-use Rattle.block_list.specs.Commit.{ImageHoldsEither, WritesSlot}
+use Rattle.disk_model.proofs.CallRuns.{plain_calls}
+use Rattle.block_list.specs.Body.{successor}
+use Rattle.block_list.specs.Commit.{CanLay, ImageHoldsEither, IsListText, WritesSlot, slot_of}
+use Rattle.block_list.specs.ListText.{ListText}
+use Rattle.block_list.specs.Slots.{ImageHoldsList, IsNext}
+use Rattle.block_list.proofs.ReadyLemmas.{can_lay}
 use Rattle.block_list.specs.Loading.{IsReady}
 use Rattle.block_list.specs.declared.body.ListBody.{ListBody}
 use Rattle.store_model.specs.History.{History}
 use Rattle.store_images.specs.Stored.{ImageStandsFor, IsTidy}
+use Rattle.store_core.proofs.NextRoom.{text_short}
 use Rattle.store_core.proofs.PushEvents.{OnlyNow}
 
 -- what the sync of the block tells
@@ -24,6 +31,20 @@ pub record Synced {D : Type 0} (g : Ghosts D) (old mid : D) (file : ℕ) : Type 
   pub fine : IsOk result
   pub made : Calls g 1 0 old mid result
 
+pub synced_by : {D : Type 0} (g : Ghosts D) (old mid : D) (file : ℕ) (result : Result (Unit {0}) Failed) → IsOk result → IsOneCall g.tells g.faults g.calls g.reads g.far_writes Plain old mid result
+    → (IsTrue (g.tells old) → SameBytes (g.held old) (g.held mid)) → Within (g.may_leave old) (g.may_leave mid) → Elapses (g.moment old) (g.moment mid) (g.left_since old) (g.left_since mid) (g.may_leave mid)
+    → (IsTrue (g.tells old) → OnlyBytes file (bytes_of (g.held mid) file) (g.may_leave mid)) → Synced g old mid file
+synced_by {D} g old mid file result fine counted same crash time lasting = record {
+  telling = counted.telling;
+  same = same;
+  crash = crash;
+  time = time;
+  lasting = lasting;
+  result = result;
+  fine = fine;
+  made = plain_calls g old mid result 0 time.later counted;
+}
+
 -- what the writing of the next list tells, done or not
 pub record Ran {D : Type 0} (g : Ghosts D) (mid new : D) (list next : ListBody) (slot : ℕ) (result : Result (Unit {0}) Failed) : Type 0 where
   pub below : slot < 2
@@ -34,6 +55,20 @@ pub record Ran {D : Type 0} (g : Ghosts D) (mid new : D) (list next : ListBody) 
   pub end : ℕ
   pub short : end < 2 ^ 63
   pub made : Calls g 6 end mid new result
+
+pub ran_by : {D : Type 0} (g : Ghosts D) (mid new : D) (list next : ListBody) (text : ListText) (result : Result (Unit {0}) Failed) → text.generation ≡ successor list.generation → IsListText text next
+    → (IsTrue (g.tells mid) → CanLay (g.held mid) (g.may_leave mid) text → (was : Option ListBody) (comes : ListBody) → ImageHoldsList (g.held mid) was → IsNext text.generation was → IsListText text comes
+    → Run (WritesSlot (slot_of text) (ImageHoldsEither was comes)) g.moment g.left_since g.may_leave mid new)
+    → (IsTrue (g.tells mid) → Besides (slot_of text) (g.held mid) (g.held new)) → Calls g 6 (1 + length text.text) mid new result → Ran g mid new list next (slot_of text) result
+ran_by {D} g mid new list next text result follows is any_moment besides made = record {
+  below = omega arith;
+  run = λ told ready. any_moment told (can_lay (g.held mid) (g.may_leave mid) (Some list) text ready follows) (Some list) next ready.stands follows is;
+  besides = besides;
+  telling = made.telling;
+  end = 1 + length text.text;
+  short = text_short text next is;
+  made = made;
+}
 
 -- The list may be written in the place of the one that counts: every image that the writing makes stands for the history, and is
 -- tidy where the one before it was.

@@ -2,7 +2,7 @@
 use Rattle.std.proofs.Common.{◌≡◌, inl, inr, ℕ, ◌+◌, ◌-◌, ◌<◌, ◌≤◌, List, [], ◌∷◌, ◌++◌, map, length, length-append, take, get_or, None, Option, IfSome, refl, sym, ◌∙◌, ap, subst, arith}
 use Rattle.std.specs.List.{Contains}
 use Rattle.std.specs.Vec.{vec_len, vec_capacity}
-use Rattle.std.proofs.lemmas.List.{append-nil, map-append, length-map}
+use Rattle.std.proofs.lemmas.List.{append-nil, map-append}
 use Rattle.std.proofs.lemmas.List.Elements.{Contains-append_cases}
 use Rattle.span_types.specs.declared.spans.Row.{Row}
 use Rattle.block_info.specs.InfoParts.{InfoParts}
@@ -24,6 +24,7 @@ use Rattle.store_images.specs.Stored.{ref_of}
 use Rattle.store_core.specs.Jobs.{ShowsFlush, ShowsCompaction, IsSpare, open_jobs, one_if, files_of_compaction}
 use Rattle.store_core.specs.Cores.{HasState, listed_as, segment_of}
 use Rattle.store_core.specs.InUse.{AreInUse}
+use Rattle.store_core.specs.NextList.{IsNextList, flush_edit}
 use Rattle.store_core.specs.Pins.{is_taken, files_at}
 use Rattle.store_core.specs.declared.jobs.OpenFlush.{OpenFlush}
 use Rattle.store_core.specs.declared.jobs.OpenCompaction.{OpenCompaction}
@@ -31,7 +32,7 @@ use Rattle.store_core.specs.declared.state.CoreState.{CoreState}
 use Rattle.store_core.proofs.InUse.{used_listed}
 use Rattle.store_core.proofs.Logged.{head_outside, live_outside}
 use Rattle.store_core.proofs.NextLists.{Parting, NamesState, first_in, parting, order_with, next_rules, same_segments}
-use Rattle.store_core.proofs.RoomLeft.{GrewByOne, compaction_shown, one_of_compaction, front_left, spare_compaction, commit_room_left, jobs_left}
+use Rattle.store_core.proofs.RoomLeft.{GrewByOne, grew_by, compaction_shown, one_of_compaction, front_left, spare_compaction, commit_room_left, jobs_left}
 use Rattle.store_core.proofs.States.{ref_to}
 
 -- the block that is listed
@@ -147,7 +148,6 @@ pub record TookOver (core later : CoreState) (list : ListBody) (info : InfoParts
   pub was_open : one_if core.jobs.flush ≡ 1
   pub none : later.jobs.flush ≡ None
   pub compaction : later.jobs.compaction ≡ core.jobs.compaction
-  pub each_file : length list.segments + length list.loose ≡ length core.list.segments + 1 + vec_len core.jobs.loose + one_if core.jobs.compaction
   pub room : vec_capacity core.jobs.loose ≤ vec_capacity later.jobs.loose
   pub info_room : vec_capacity core.infos ≤ vec_capacity later.infos
   pub gone : later.live.flushing ≡ []
@@ -164,9 +164,9 @@ pub record IsItsInfo (info : InfoParts) (file size : ℕ) : Type 0 where
 
 pub has_committed : (core later : CoreState) (list : ListBody) (m : Machine) (job : Flush) (size : ℕ) (firsts : List Row) (info : InfoParts)
     (kept : List SegmentRef) (file : ℕ) → HasState core m → TookOver core later list info file (count_of m.history) → IsItsInfo info job.file size → NamesState list (committed_state m job size firsts) → MeetsRules list
-    → list.segments ≡ kept ++ ref_to file (count_of m.history) ∷ []
+    → list.segments ≡ kept ++ ref_to file (count_of m.history) ∷ [] → (files : FlushFiles) → IsNextList core files size list
     → HasState later (with_state (committed_state m job size firsts) m)
-has_committed core later list m job size firsts info kept file has took its names rules segments = record {
+has_committed core later list m job size firsts info kept file has took its names rules segments files next = record {
   count = (let none = took.count in let first = took.first_is in omega (arith, first, none));
   few = (let none = took.count in let first = took.first_is in let was = has.count in let few = has.few in omega (arith, first, none, was, few));
   live = has.live ∙ sym took.rows;
@@ -225,22 +225,10 @@ has_committed core later list m job size firsts info kept file has took its name
 
     grew_list : GrewByOne core.list (vec_len core.jobs.loose) list (vec_len later.jobs.loose)
     grew_list =
-        let each = took.each_file in
         let all = ap (λ (l : List ℕ). length l) named ∙ length-append u.loose (files_of_compaction core.jobs.compaction) in
-        let other = one_of_compaction core.jobs.compaction in
         let mine = ap (λ (l : List ℕ). length l) loose_is in
-        let more : length u.loose ≡ length m.state.loose + length (released (floor_after (count_of m.history) m.state) (with_segment (count_of m.history) job m.state)) = length-append m.state.loose (released (floor_after (count_of m.history) m.state) (with_segment (count_of m.history) job m.state)) in
-        let was = ap (λ (l : List ℕ). length l) has.loose in
-        let old : vec_len core.jobs.loose ≡ length core.jobs.loose.items = core.jobs.loose.ok.0 in
         let new : vec_len later.jobs.loose ≡ length later.jobs.loose.items = later.jobs.loose.ok.0 in
-        let blocks = sym (ap (λ (l : List BlockRef). length l) names.blocks) ∙ length-map (m.state.blocks ++ block ∷ []) ref_of ∙ length-append m.state.blocks (block ∷ []) in
-        let before = ap (λ (l : List BlockRef). length l) has.blocks ∙ length-map m.state.blocks ref_of in
-        record {
-          segments = omega (arith, each, all, other, mine, more, was, old, new);
-          blocks = omega (arith, blocks, before);
-          files = omega (arith, each, all, other, mine, old, new, blocks, before);
-          text = omega (arith, each, all, other, mine, more, was, old, new, blocks, before);
-        }
+        grew_by core.list (flush_edit core files size) list (vec_len core.jobs.loose) (vec_len later.jobs.loose) next (sym core.jobs.loose.ok.0) (omega (arith, all, mine, new))
 
     grew : GrewByOne core.list (vec_len core.jobs.loose) later.list (vec_len later.jobs.loose)
     grew = subst (λ (l : ListBody). GrewByOne core.list (vec_len core.jobs.loose) l (vec_len later.jobs.loose)) (sym took.listing) grew_list

@@ -16,8 +16,8 @@ use Rattle.store_state.specs.Given.{info_files}
 use Rattle.store_state.specs.Parted.{inside}
 use Rattle.store_state.specs.Written.{NamesJob, IsJoinedBlock}
 use Rattle.store_core.specs.Cores.{HasState, StateShows, unsure_of}
-use Rattle.store_core.specs.Jobs.{ShowsCompaction, IsSpare, one_if, files_of_flush}
-use Rattle.store_core.specs.NextList.{IsJoinedList, infos_outside}
+use Rattle.store_core.specs.Jobs.{SameCompaction, SameJobs, one_if, open_jobs, files_of_flush}
+use Rattle.store_core.specs.NextList.{IsJoinedList, compact_edit, infos_outside}
 use Rattle.store_core.specs.Pins.{is_taken, files_at}
 use Rattle.store_core.specs.declared.jobs.OpenCompaction.{OpenCompaction}
 use Rattle.store_core.specs.declared.state.CoreState.{CoreState}
@@ -26,8 +26,11 @@ use Rattle.store_core.proofs.CompactCommits.{Joins, joined_rules}
 use Rattle.store_core.proofs.CompactFacts.{firsts_for}
 use Rattle.store_core.proofs.CompactStates.{TookJoined}
 use Rattle.store_core.proofs.Looking.{ShowsPins, shown_less}
+use Rattle.store_core.proofs.NextTaken.{joined_loose}
 use Rattle.store_core.proofs.OpenCompactions.{IsCompactionHere, compaction_here}
-use Rattle.store_core.proofs.RoomLeft.{two_of_flush}
+use Rattle.store_core.proofs.JobRooms.{same_flush}
+use Rattle.store_core.proofs.RoomLeft.{loose_within, two_of_flush}
+use Rattle.store_core.proofs.States.{has_stopped_with}
 
 abbrev Pins : Type 0
 Pins = Vec (Option (List ℕ)) Global
@@ -138,37 +141,16 @@ files_back before between after number files are first second n = second n ∙ a
 has_spent : (core : CoreState) (mine : OpenCompaction) (pins : Pins) (faults : ℕ) (m : Machine) → core.jobs.compaction ≡ Some mine
     → ((n : ℕ) → is_taken n pins.items ≡ is_taken n core.pins.items) → ((n : ℕ) → files_at n pins.items ≡ files_at n core.pins.items)
     → HasState core m → HasState (record (spent core mine pins) { read_only = Some faults }) (broken faults m)
-has_spent core mine pins faults m known taken named has = record {
-  count = has.count;
-  few = has.few;
-  live = has.live;
-  head = has.head;
-  flushing = has.flushing;
-  flush = has.flush;
-  compaction = subst (λ (k : Option OpenCompaction). ShowsCompaction k m.state.compaction) known has.compaction;
-  blocks = has.blocks;
-  infos = has.infos;
-  listed = has.listed;
-  commit = λ none. absurd (let bad : Some faults ≡ None = none in cc);
-  rules = has.rules;
-  segments = has.segments;
-  last = has.last;
-  floor = has.floor;
-  loose = has.loose;
-  next_file = has.next_file;
-  begun = has.begun;
-  jobs = record {
-    given = has.jobs.given;
-    flush = has.jobs.flush;
-    compaction = subst (λ (k : Option OpenCompaction). IfSome k (λ x. IsSpare core.list x.file)) known has.jobs.compaction;
-    level = subst (λ (k : Option OpenCompaction). IfSome k (λ x. x.level ≤ 63)) known has.jobs.level;
-    room = λ some. let one : one_if core.jobs.compaction ≡ 1 = ap one_if known in let fits = has.jobs.room (omega (arith, one)) in omega (arith, one, fits);
-  };
-  used = has.used;
-  pins = λ n. has.pins n ∙ sym (taken n);
-  pinned = λ n. has.pinned n ∙ sym (named n);
-  read_only = refl;
-}
+has_spent core mine pins faults m known taken named has = has_stopped_with core (spent core mine pins).jobs pins faults m has same (omega arith) taken named
+  where
+    same : SameJobs core.jobs (spent core mine pins).jobs
+    same = record {
+      begun = refl;
+      next_file = refl;
+      loose = refl;
+      flush = same_flush core.jobs.flush;
+      compaction = subst (λ (k : Option OpenCompaction). SameCompaction k (Some (record mine { room = None }))) (sym known) (None, refl);
+    }
 
 pub has_stopped_spent : (core later : CoreState) (mine : OpenCompaction) (before pins : Pins) (faults : ℕ) (m : Machine) → core.jobs.compaction ≡ Some mine → later ≡ spent core mine before
     → ((n : ℕ) → is_taken n pins.items ≡ is_taken n core.pins.items) → ((n : ℕ) → files_at n pins.items ≡ files_at n core.pins.items)
@@ -183,19 +165,28 @@ pub others_fit : (core later : CoreState) (mine : OpenCompaction) (pins : Pins) 
     → IfSome core.jobs.compaction (λ known. IsJoinedList core known files count list) → 2 * one_if later.jobs.flush ≤ length list.loose
 others_fit core later mine pins files count list known is next =
     let its : IsJoinedList core mine files count list = subst (λ (k : Option OpenCompaction). IfSome k (λ x. IsJoinedList core x files count list)) known next in
-    let all = ap (λ (l : List ℕ). length l) its.its_loose ∙ length-append (core.jobs.loose.items ++ inside files core.list.blocks) (files_of_flush core.jobs.flush) in
+    let all = ap (λ (l : List ℕ). length l) (joined_loose core mine files count list its) ∙ length-append (core.jobs.loose.items ++ inside files core.list.blocks) (files_of_flush core.jobs.flush) in
     let two = two_of_flush core.jobs.flush in
     subst (λ (x : CoreState). 2 * one_if x.jobs.flush ≤ length list.loose) (sym is) (omega (arith, all, two))
 
+-- and so many loose files have room
+pub loose_fits : (core later : CoreState) (mine : OpenCompaction) (pins : Pins) (files : List ℕ) (count : ℕ) (list : ListBody) (m : Machine) → HasState core m → core.jobs.compaction ≡ Some mine → later ≡ spent core mine pins
+    → IfSome core.jobs.compaction (λ known. IsJoinedList core known files count list) → length list.loose ≤ vec_capacity later.jobs.loose
+loose_fits core later mine pins files count list m has known is next =
+    let its : IsJoinedList core mine files count list = subst (λ (k : Option OpenCompaction). IfSome k (λ x. IsJoinedList core x files count list)) known next in
+    let one : one_if core.jobs.compaction ≡ 1 = ap (λ (o : Option OpenCompaction). one_if o) known in
+    subst (λ (x : CoreState). length list.loose ≤ vec_capacity x.jobs.loose) (sym is)
+    (loose_within core.list (compact_edit core mine files count) list (vec_len core.jobs.loose) (2 * one_if core.jobs.flush) (open_jobs core.jobs) (vec_capacity core.jobs.loose) its (sym core.jobs.loose.ok.0)
+    (two_of_flush core.jobs.flush) (omega (arith, one)) (has.jobs.room (omega (arith, one))))
+
 pub took_joined : (core before later : CoreState) (list : ListBody) (info : InfoParts) (files joined : List ℕ) (mine : OpenCompaction) (pins : Pins) → core.jobs.compaction ≡ Some mine → before ≡ spent core mine pins → files ≡ joined
-    → length list.blocks + length list.loose ≡ length core.list.blocks + 1 + vec_len core.jobs.loose + 2 * one_if core.jobs.flush
     → later.list ≡ list → later.infos.items ≡ infos_outside files before.infos.items ++ info ∷ []
     → (later.jobs.compaction ≡ None) × (later.jobs.flush ≡ before.jobs.flush) × (later.jobs.begun ≡ before.jobs.begun) × (later.jobs.next_file ≡ before.jobs.next_file)
     → later.jobs.loose.items ≡ take (length list.loose - 2 * one_if before.jobs.flush) list.loose
     → (vec_capacity before.jobs.loose ≤ vec_capacity later.jobs.loose) × (vec_capacity before.infos ≤ vec_capacity later.infos)
     → (later.live ≡ before.live) × (later.segment ≡ before.segment) × (later.pins ≡ before.pins) × (later.read_only ≡ before.read_only) × (later.unsure ≡ before.unsure)
     → TookJoined core later list info joined
-took_joined core before later list info files joined mine pins known is are few listing infos jobs loose room same = record {
+took_joined core before later list info files joined mine pins known is are listing infos jobs loose room same = record {
   listing = listing;
   infos = infos ∙ ap (λ (fs : List ℕ). infos_outside fs before.infos.items ++ info ∷ []) are ∙ ap (λ (x : CoreState). infos_outside joined x.infos.items ++ info ∷ []) is;
   begun = jobs.2 ∙ ap (λ (x : CoreState). x.jobs.begun) is;
@@ -204,7 +195,6 @@ took_joined core before later list info files joined mine pins known is are few 
   was_open = ap one_if known;
   none = jobs.0;
   flush = jobs.1 ∙ ap (λ (x : CoreState). x.jobs.flush) is;
-  each_file = few;
   room = subst (λ (x : CoreState). vec_capacity x.jobs.loose ≤ vec_capacity later.jobs.loose) is room.0;
   info_room = subst (λ (x : CoreState). vec_capacity x.infos ≤ vec_capacity later.infos) is room.1;
   live = same.0 ∙ ap (λ (x : CoreState). x.live) is;

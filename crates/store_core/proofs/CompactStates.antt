@@ -14,7 +14,7 @@ use Rattle.block_list.specs.declared.body.BlockRef.{BlockRef}
 use Rattle.block_list.specs.declared.body.SegmentRef.{SegmentRef}
 use Rattle.block_list.specs.declared.body.ListBody.{ListBody}
 use Rattle.live_traces.specs.Parts.{LiveParts}
-use Rattle.store_model.specs.Choice.{in_files, outside_files}
+use Rattle.store_model.specs.Choice.{outside_files}
 use Rattle.store_model.specs.State.{State, Block, Compaction, block_files, flush_files, is_among}
 use Rattle.store_model.specs.After.{after_commit_compact, job_files}
 use Rattle.store_model.specs.Step.{Machine, with_state}
@@ -26,14 +26,15 @@ use Rattle.store_images.specs.Stored.{ref_of}
 use Rattle.store_core.specs.Cores.{HasState, AreDescribed, listed_as, segment_of}
 use Rattle.store_core.specs.InUse.{AreInUse}
 use Rattle.store_core.specs.Jobs.{ShowsFlush, ShowsCompaction, IsSpare, open_jobs, one_if, files_of_flush}
-use Rattle.store_core.specs.NextList.{IsJoinedList, infos_outside}
+use Rattle.store_core.specs.NextList.{IsJoinedList, compact_edit, infos_outside}
 use Rattle.store_core.specs.declared.jobs.OpenCompaction.{OpenCompaction}
 use Rattle.store_core.specs.declared.jobs.OpenFlush.{OpenFlush}
 use Rattle.store_core.specs.declared.state.CoreState.{CoreState}
 use Rattle.store_core.proofs.InUse.{used_listed}
 use Rattle.store_core.proofs.NextLists.{NamesState, files_fit, files_once}
+use Rattle.store_core.proofs.NextTaken.{joined_loose}
 use Rattle.store_core.proofs.OpenCompactions.{model_of}
-use Rattle.store_core.proofs.RoomLeft.{GrewByOne, flush_shown, two_of_flush, front_left, spare_flush, commit_room_left, jobs_left}
+use Rattle.store_core.proofs.RoomLeft.{GrewByOne, grew_by, flush_shown, two_of_flush, front_left, spare_flush, commit_room_left, jobs_left}
 use Rattle.store_core.proofs.Looking.{ShowsPins}
 
 -- the block that is listed
@@ -121,7 +122,7 @@ module _ (core : CoreState) (m : Machine) (has : HasState core m) (mine : OpenCo
         ∙ ap (λ (l : List BlockRef). (m.state.loose ++ inside files l) ++ files_of_flush core.jobs.flush) (sym has.blocks)
         ∙ ap (λ (l : List ℕ). (m.state.loose ++ inside l core.list.blocks) ++ files_of_flush core.jobs.flush) (sym same)
         ∙ ap (λ (l : List ℕ). (l ++ inside joined core.list.blocks) ++ files_of_flush core.jobs.flush) has.loose
-        ∙ sym next.its_loose;
+        ∙ sym (joined_loose core mine joined size list next);
     next_file = has.next_file ∙ sym next.its_next_file;
   }
 
@@ -160,7 +161,6 @@ pub record TookJoined (core later : CoreState) (list : ListBody) (info : InfoPar
   pub was_open : one_if core.jobs.compaction ≡ 1
   pub none : later.jobs.compaction ≡ None
   pub flush : later.jobs.flush ≡ core.jobs.flush
-  pub each_file : length list.blocks + length list.loose ≡ length core.list.blocks + 1 + vec_len core.jobs.loose + 2 * one_if core.jobs.flush
   pub room : vec_capacity core.jobs.loose ≤ vec_capacity later.jobs.loose
   pub info_room : vec_capacity core.infos ≤ vec_capacity later.infos
   pub live : later.live ≡ core.live
@@ -206,21 +206,10 @@ module _ (core later : CoreState) (m : Machine) (has : HasState core m) (mine : 
 
   grew_list : GrewByOne core.list (vec_len core.jobs.loose) list (vec_len later.jobs.loose)
   grew_list =
-      let each = took.each_file in
       let all = ap (λ (l : List ℕ). length l) named ∙ length-append u.loose (files_of_flush core.jobs.flush) in
-      let other = two_of_flush core.jobs.flush in
       let left = ap (λ (l : List ℕ). length l) loose_is in
-      let more = length-append m.state.loose (block_files (in_files its_files m.state.blocks)) in
-      let was = ap (λ (l : List ℕ). length l) has.loose in
-      let old : vec_len core.jobs.loose ≡ length core.jobs.loose.items = core.jobs.loose.ok.0 in
       let new : vec_len later.jobs.loose ≡ length later.jobs.loose.items = later.jobs.loose.ok.0 in
-      let segments = ap (λ (l : List SegmentRef). length l) next.segments in
-      record {
-        segments = omega (arith, segments);
-        blocks = omega (arith, each, all, other, left, more, was, old, new);
-        files = omega (arith, each, all, other, left, old, new, segments);
-        text = omega (arith, each, all, other, left, more, was, old, new, segments);
-      }
+      grew_by core.list (compact_edit core mine joined size) list (vec_len core.jobs.loose) (vec_len later.jobs.loose) next (sym core.jobs.loose.ok.0) (omega (arith, all, left, new))
 
   grew : GrewByOne core.list (vec_len core.jobs.loose) later.list (vec_len later.jobs.loose)
   grew = subst (λ (l : ListBody). GrewByOne core.list (vec_len core.jobs.loose) l (vec_len later.jobs.loose)) (sym took.listing) grew_list

@@ -46,6 +46,7 @@ use Rattle.store_core.proofs.CommitRuns.{Synced, Ran, MayList, its_run}
 use Rattle.store_core.proofs.CommitStates.{new_block, committed_state, next_last, next_parting, next_segments, names_next, next_meets, TookOver, IsItsInfo, has_committed}
 use Rattle.store_core.proofs.InUse.{all_named}
 use Rattle.store_core.proofs.NextLists.{NamesState}
+use Rattle.store_core.proofs.NextTaken.{flush_blocks, flush_loose}
 use Rattle.store_core.proofs.OpenJobs.{IsOpenHere}
 use Rattle.store_core.proofs.PushEvents.{OnlyNow}
 use Rattle.store_core.proofs.States.{ref_to}
@@ -60,7 +61,7 @@ next_for : (core : CoreState) (m : Machine) (files : FlushFiles) (size : ℕ) (l
 next_for core m files size list has next = record {
   segments = next.segments ∙ ap (λ (n : ℕ). staying n (map segment_of (core.list.segments ++ ref_to files.segment (length_of core) ∷ []))) floors
       ∙ ap (λ (n : ℕ). staying (floor_after (count_of m.history) m.state) (map segment_of (core.list.segments ++ ref_to files.segment n ∷ []))) (sym has.count);
-  loose = next.its_loose ∙ ap (λ (n : ℕ). (core.jobs.loose.items ++ released n (map segment_of (core.list.segments ++ ref_to files.segment (length_of core) ∷ []))) ++ files_of_compaction core.jobs.compaction) floors
+  loose = flush_loose core files size list next ∙ ap (λ (n : ℕ). (core.jobs.loose.items ++ released n (map segment_of (core.list.segments ++ ref_to files.segment (length_of core) ∷ []))) ++ files_of_compaction core.jobs.compaction) floors
       ∙ ap (λ (n : ℕ). (core.jobs.loose.items ++ released (floor_after (count_of m.history) m.state) (map segment_of (core.list.segments ++ ref_to files.segment n ∷ []))) ++ files_of_compaction core.jobs.compaction) (sym has.count);
   floor = next.its_floor ∙ floors;
 }
@@ -86,14 +87,14 @@ module _ (told : Type 0) (held : Image) (may_leave : Image → Type 0) (core : C
     pub names_committed : NamesState list (committed_state m here.job size firsts)
     names_committed =
         let f = next_for core m here.mine.files size list s.has next in
-        names_next core m s.has here.mine.files here.job size firsts list here.files next.blocks f.segments f.loose f.floor next.its_next_file
+        names_next core m s.has here.mine.files here.job size firsts list here.files (flush_blocks core here.mine.files size list next) f.segments f.loose f.floor next.its_next_file
 
     pub segments_committed : list.segments ≡ (next_parting core m s.has here.mine.files s.above).kept ++ next_last here.mine.files m ∷ []
     segments_committed = next_segments core m s.has here.mine.files list s.above (next_for core m here.mine.files size list s.has next).segments
 
     pub meets_rules : 1 ≤ size → size ≤ 1048576 → MeetsRules list
     meets_rules some most =
-        next_meets core m s.has here.mine.files here.job size firsts list s.above names_committed sound_committed segments_committed next.blocks
+        next_meets core m s.has here.mine.files here.job size firsts list s.above names_committed sound_committed segments_committed (flush_blocks core here.mine.files size list next)
         (let is = next.generation in omega (arith, is, few core.list.generation)) some most
       where
         few : (n : ℕ) → (n + 1) % 256 < 256
@@ -162,7 +163,7 @@ module _ {D : Type 0} (g : Ghosts D) (only_now : OnlyNow g) (old : Core D) (mid 
     waits = m.state.head ++ live_rows m.state.live
 
     blocks_are : list.blocks ≡ old.state.list.blocks ++ ref_of block ∷ []
-    blocks_are = nexts.blocks ∙ ap (λ (n : ℕ). old.state.list.blocks ++ record { file = n; level = 0; rows = size } ∷ []) here.files.block
+    blocks_are = flush_blocks old.state files size list nexts ∙ ap (λ (n : ℕ). old.state.list.blocks ++ record { file = n; level = 0; rows = size } ∷ []) here.files.block
 
     its_rows_hold : told → BlockHolds (bytes_of (g.held old.disk) file) firsts
     its_rows_hold known = let b = c.block (tells known) in record { header = b.header; parts = b.parts }
@@ -248,7 +249,7 @@ module _ {D : Type 0} (g : Ghosts D) (only_now : OnlyNow g) (old : Core D) (mid 
     flush_takes : Takes told (g.held disk) (g.may_leave disk) later (with_state after m)
     flush_takes = record {
       has = has_committed old.state later list m (c.here m s.has).job size firsts info (next_parting old.state m s.has its_files s.above).kept its_files.segment s.has took
-          (record { file_is = c.its_info.file_is ∙ sym (c.here m s.has).its_file; level = c.its_info.level; rows = c.its_info.rows }) (names told tells m s) (rules told tells m s) (segments told tells m s);
+          (record { file_is = c.its_info.file_is ∙ sym (c.here m s.has).its_file; level = c.its_info.level; rows = c.its_info.rows }) (names told tells m s) (rules told tells m s) (segments told tells m s) its_files (c.next m s.has);
       built = λ t. subst (λ (l : List InfoParts). AreDescribed (g.held disk) l (m.state.blocks ++ its_block ∷ [])) (sym took.infos)
           (described_more (g.held disk) old.state.infos.items info m.state.blocks its_block
           (built_old g only_now old mid disk (CommitFlush number size) (flush_commits number size) file slot list c.writes result synced ran lists told tells decided m s t) (block_stays t));

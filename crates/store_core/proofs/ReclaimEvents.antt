@@ -34,7 +34,7 @@ use Rattle.store_core.proofs.Now.{StandsNow}
 use Rattle.store_core.specs.Events.{Did}
 use Rattle.store_core.specs.Jobs.{HasFreshSegment, files_of_flush, files_of_compaction}
 use Rattle.store_core.specs.Loose.{MayEmpty, OthersStay, used_files}
-use Rattle.store_core.specs.NextList.{IsParted, list_kept}
+use Rattle.store_core.specs.NextList.{IsParted}
 use Rattle.store_core.specs.declared.jobs.Jobs.{Jobs}
 use Rattle.store_core.specs.declared.jobs.OpenFlush.{OpenFlush}
 use Rattle.store_core.specs.declared.state.CoreState.{CoreState}
@@ -49,7 +49,7 @@ use Rattle.store_core.proofs.OpenJobs.{fresh_moved, segment_of_known}
 use Rattle.store_core.proofs.PushEvents.{OnlyNow, refused_is}
 use Rattle.store_core.proofs.Quiet.{quiet, none_begun, adds_none}
 use Rattle.store_core.proofs.PinnedFiles.{free_is, few_kept, uses_parted, all_kept}
-use Rattle.store_core.proofs.ReclaimStates.{emptied_state, next, names_emptied, rules_emptied, named_or_emptied, has_emptied}
+use Rattle.store_core.proofs.ReclaimStates.{emptied_state, list_kept, next, names_emptied, rules_emptied, named_or_emptied, has_emptied}
 use Rattle.store_core.proofs.Spare.{SameUsed, described_used, logged_used, settled_renewed}
 use Rattle.store_core.proofs.States.{has_stopped}
 

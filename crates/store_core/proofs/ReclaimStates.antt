@@ -1,24 +1,31 @@
 -- The memory of a core whose loose files were emptied, but for those that pins name.
-use Rattle.std.proofs.Common.{◌≡◌, ◌⊎◌, inl, inr, ℕ, ◌<◌, ◌≤◌, List, [], ◌∷◌, ◌++◌, length, None, Some, Option, IfSome, refl, sym, ◌∙◌, ap, subst, arith}
+use Rattle.std.proofs.Common.{◌≡◌, ◌⊎◌, inl, inr, ℕ, ◌<◌, ◌≤◌, List, [], ◌∷◌, ◌++◌, length, None, Some, Option, IfSome, refl, sym, ◌∙◌, ap, subst, arith, append_assoc}
 use Rattle.std.specs.Prelude.{Vec}
 use Rattle.std.specs.Vec.{vec_len, vec_capacity}
 use Rattle.std.specs.declared.alloc.Global.{Global}
 use Rattle.std.specs.List.{Contains}
 use Rattle.std.proofs.lemmas.Bool.{cases_eq}
+use Rattle.std.proofs.lemmas.List.{append-nil}
 use Rattle.std.proofs.lemmas.List.Elements.{Contains-append_left, Contains-append_right}
-use Rattle.block_list.specs.Body.{MeetsRules, files_of}
+use Rattle.block_list.specs.Body.{MeetsRules, files_of, successor}
+use Rattle.block_list.specs.declared.body.BlockRef.{BlockRef}
+use Rattle.block_list.specs.declared.body.SegmentRef.{SegmentRef}
 use Rattle.block_list.specs.declared.body.ListBody.{ListBody}
-use Rattle.store_model.specs.State.{State, Flush, Compaction, flush_files, compaction_files, free_files, kept_files}
+use Rattle.store_model.specs.State.{State, flush_files, compaction_files, free_files, kept_files}
 use Rattle.store_model.specs.Sound.{times, StateIsSound}
 use Rattle.store_model.specs.Step.{Machine, Step, early, with_state}
 use Rattle.store_model.specs.Step.Step.{Succeeds}
 use Rattle.store_model.specs.Event.Event.{Reclaim}
 use Rattle.store_model.specs.Event.Reply.{Count}
 use Rattle.store_model.proofs.KeepsSound.{step_keeps as keeps_sound}
+use Rattle.store_state.specs.Edited.{IsEdited}
+use Rattle.store_state.specs.Parted.{outside}
+use Rattle.store_state.proofs.Listings.{inside_none, outside_none}
 use Rattle.store_images.proofs.Lists.{at_front, behind}
 use Rattle.store_core.specs.Cores.{HasState}
-use Rattle.store_core.specs.Jobs.{JobsFit, IsSpare, ShowsFlush, ShowsCompaction, CommitFits, HasCommitRoom, files_of_flush, files_of_compaction, open_jobs}
-use Rattle.store_core.specs.NextList.{IsParted, list_kept}
+use Rattle.store_core.specs.Jobs.{JobsFit, IsSpare, CommitFits, HasCommitRoom, files_of_flush, files_of_compaction, open_jobs}
+use Rattle.store_core.specs.NextList.{IsParted, kept_edit}
+use Rattle.store_core.specs.Loose.{next_with}
 use Rattle.store_core.specs.declared.jobs.Jobs.{Jobs}
 use Rattle.store_core.specs.declared.jobs.OpenFlush.{OpenFlush}
 use Rattle.store_core.specs.declared.jobs.OpenCompaction.{OpenCompaction}
@@ -26,21 +33,48 @@ use Rattle.store_core.specs.declared.room.CommitRoom.{CommitRoom}
 use Rattle.store_core.specs.declared.state.CoreState.{CoreState}
 use Rattle.store_core.proofs.InUse.{used_listed, once_contained}
 use Rattle.store_core.proofs.NextLists.{NamesState, uses_are, files_fit, files_once}
+use Rattle.store_core.proofs.RoomLeft.{compaction_shown, flush_shown, spare_compaction}
 use Rattle.store_core.proofs.PinnedFiles.{kept_is, free_is, few_kept, uses_parted}
 
 abbrev pub emptied_state : State → State
 emptied_state u = record u { loose = kept_files u }
 
+-- ---- the list that a reclaim commits
+
+abbrev pub list_kept : ListBody → Jobs → List ℕ → ListBody
+list_kept list jobs kept = next_with list jobs.next_file ((kept ++ files_of_flush jobs.flush) ++ files_of_compaction jobs.compaction)
+
+-- an edit by which neither a block nor a segment comes or goes makes it
+pub kept_list : (list : ListBody) (jobs : Jobs) (kept : List ℕ) (next : ListBody) → IsEdited list (kept_edit jobs kept) next → next ≡ list_kept list jobs kept
+kept_list list jobs kept next is =
+    ap (λ (n : ℕ). record next { generation = n }) is.generation
+    ∙ ap (λ (n : ℕ). record next { generation = successor list.generation; next_file = n }) is.its_next_file
+    ∙ ap (λ (n : ℕ). record next { generation = successor list.generation; next_file = jobs.next_file; floor = n }) is.its_floor
+    ∙ ap (λ (l : List SegmentRef). record next { generation = successor list.generation; next_file = jobs.next_file; floor = list.floor; segments = l }) is.segments
+    ∙ ap (λ (l : List BlockRef). record list { generation = successor list.generation; next_file = jobs.next_file; blocks = l; loose = next.loose }) blocks
+    ∙ ap (λ (l : List ℕ). record list { generation = successor list.generation; next_file = jobs.next_file; loose = l }) loose
+  where
+    flush : List ℕ
+    flush = files_of_flush jobs.flush
+
+    compaction : List ℕ
+    compaction = files_of_compaction jobs.compaction
+
+    blocks : next.blocks ≡ list.blocks
+    blocks = is.blocks ∙ append-nil (outside [] list.blocks) ∙ outside_none list.blocks
+
+    loose : next.loose ≡ (kept ++ flush) ++ compaction
+    loose = is.its_loose ∙ ap (λ (l : List ℕ). ((kept ++ l) ++ []) ++ (flush ++ compaction)) (inside_none list.blocks) ∙ ap (λ (l : List ℕ). l ++ (flush ++ compaction)) (append-nil (kept ++ []) ∙ append-nil kept)
+        ∙ sym (append_assoc kept flush compaction)
+
+-- by what was read of the jobs
+pub as_kept : (list : ListBody) (jobs : Jobs) (kept flush compaction : List ℕ) (next : ListBody) → flush ≡ files_of_flush jobs.flush → compaction ≡ files_of_compaction jobs.compaction
+    → IsEdited list (record { next_file = jobs.next_file; loose = kept; joined = []; block = None; segment = None; others = flush ++ compaction }) next → IsEdited list (kept_edit jobs kept) next
+as_kept list jobs kept flush compaction next its_files its_file is =
+    subst (λ (l : List ℕ). IsEdited list (record { next_file = jobs.next_file; loose = kept; joined = []; block = None; segment = None; others = l }) next)
+    (ap (λ (l : List ℕ). l ++ compaction) its_files ∙ ap (λ (l : List ℕ). files_of_flush jobs.flush ++ l) its_file) is
+
 -- ---- the files of open jobs
-
-shown_files : (known : Option OpenFlush) (flush : Option Flush) → ShowsFlush known flush → flush_files flush ≡ files_of_flush known
-shown_files None flush none = ap flush_files none
-shown_files (Some mine) flush shown =
-    ap flush_files shown.1 ∙ ap (λ (f : ℕ). f ∷ shown.0.segment ∷ []) (sym shown.3.block) ∙ ap (λ (f : ℕ). mine.files.block ∷ f ∷ []) (sym shown.3.segment)
-
-shown_file : (known : Option OpenCompaction) (compaction : Option Compaction) → ShowsCompaction known compaction → compaction_files compaction ≡ files_of_compaction known
-shown_file None compaction none = ap compaction_files none
-shown_file (Some mine) compaction shown = ap compaction_files shown
 
 -- a list that names them as loose
 spare_flush : (list : ListBody) (front after : List ℕ) (known : Option OpenFlush) → list.loose ≡ (front ++ files_of_flush known) ++ after
@@ -53,11 +87,6 @@ spare_flush list front after (Some mine) named =
       inr (there mine.files.block (at_front mine.files.block (mine.files.segment ∷ []))),
       inr (there mine.files.segment (behind mine.files.segment mine.files.block (mine.files.segment ∷ []) (at_front mine.files.segment []))),
     )
-
-spare_compaction : (list : ListBody) (front : List ℕ) (known : Option OpenCompaction) → list.loose ≡ front ++ files_of_compaction known → IfSome known (λ mine. IsSpare list mine.file)
-spare_compaction list front None named = tt
-spare_compaction list front (Some mine) named =
-    inr (subst (λ (l : List ℕ). Contains l mine.file) (sym named) (Contains-append_right front (mine.file ∷ []) mine.file (at_front mine.file [])))
 
 -- ---- room for commits while fewer files are loose
 
@@ -104,8 +133,8 @@ module _ (core : CoreState) (m : Machine) (has : HasState core m) (sound : State
     segments = has.segments;
     floor = has.floor;
     loose = ap (λ (l : List ℕ). (l ++ flush_files m.state.flush) ++ compaction_files m.state.compaction) (sym (kept_is core m has sound kept free parts))
-        ∙ ap (λ (l : List ℕ). (kept ++ l) ++ compaction_files m.state.compaction) (shown_files core.jobs.flush m.state.flush has.flush)
-        ∙ ap (λ (l : List ℕ). (kept ++ files_of_flush core.jobs.flush) ++ l) (shown_file core.jobs.compaction m.state.compaction has.compaction);
+        ∙ ap (λ (l : List ℕ). (kept ++ l) ++ compaction_files m.state.compaction) (flush_shown core.jobs.flush m.state.flush has.flush)
+        ∙ ap (λ (l : List ℕ). (kept ++ files_of_flush core.jobs.flush) ++ l) (compaction_shown core.jobs.compaction m.state.compaction has.compaction);
     next_file = has.next_file;
   }
 
@@ -153,7 +182,7 @@ module _ (core : CoreState) (m : Machine) (has : HasState core m) (sound : State
     fit_emptied = record {
       given = omega arith;
       flush = spare_flush next kept (files_of_compaction core.jobs.compaction) core.jobs.flush refl;
-      compaction = spare_compaction next (kept ++ files_of_flush core.jobs.flush) core.jobs.compaction refl;
+      compaction = spare_compaction core.jobs.compaction next (kept ++ files_of_flush core.jobs.flush) refl;
       level = has.jobs.level;
       room = λ some. let old = has.jobs.room some in omega (arith, old, fewer, room);
     }

@@ -9,12 +9,15 @@ use Rattle.std.proofs.lemmas.List.Elements.{Contains-append_right}
 use Rattle.block_info.specs.InfoParts.{InfoParts}
 use Rattle.block_list.specs.declared.body.ListBody.{ListBody}
 use Rattle.store_model.specs.State.{Flush, Compaction, flush_files, compaction_files}
+use Rattle.store_state.specs.Edited.{Edit, IsEdited}
+use Rattle.store_state.proofs.Listings.{edited_lengths}
 use Rattle.store_images.proofs.Lists.{at_front, behind}
 use Rattle.store_core.specs.Jobs.{ShowsFlush, ShowsCompaction, IsSpare, JobsFit, CommitFits, HasCommitRoom, open_jobs, one_if, files_of_flush, files_of_compaction}
 use Rattle.store_core.specs.declared.jobs.Jobs.{Jobs}
 use Rattle.store_core.specs.declared.jobs.OpenFlush.{OpenFlush}
 use Rattle.store_core.specs.declared.jobs.OpenCompaction.{OpenCompaction}
 use Rattle.store_core.specs.declared.room.CommitRoom.{CommitRoom}
+use Rattle.store_core.proofs.NextRoom.{one_at_most}
 
 -- ---- files of jobs
 
@@ -63,6 +66,31 @@ pub record GrewByOne (list : ListBody) (loose : ℕ) (next : ListBody) (more : �
   pub blocks : length next.blocks ≤ length list.blocks + 1
   pub files : more + length next.segments + length next.blocks ≤ loose + length list.segments + length list.blocks + 2
   pub text : 12 * length next.segments + 9 * length next.blocks + 4 * more ≤ 12 * length list.segments + 9 * length list.blocks + 4 * loose + 21
+
+pub grew_by : (list : ListBody) (edit : Edit) (next : ListBody) (loose more : ℕ) → IsEdited list edit next → length edit.loose ≡ loose → more + length edit.others ≡ length next.loose → GrewByOne list loose next more
+grew_by list edit next loose more is was left =
+    let lengths = edited_lengths list edit next is in
+    let blocks = lengths.blocks in
+    let segments = lengths.segments in
+    let all = lengths.all in
+    let block = one_at_most edit.block in
+    let segment = one_at_most edit.segment in
+    record {
+      segments = omega (arith, segment, segments);
+      blocks = omega (arith, block, blocks);
+      files = omega (arith, all, block, segment, was, left);
+      text = omega (arith, blocks, segments, all, block, segment, was, left);
+    }
+
+-- and the loose files that it names have room
+pub loose_within : (list : ListBody) (edit : Edit) (next : ListBody) (loose others jobs room : ℕ) → IsEdited list edit next → length edit.loose ≡ loose → length edit.others ≡ others → others + 2 ≤ 2 * jobs
+    → loose + length list.segments + length list.blocks + 2 * jobs ≤ room → length next.loose ≤ room
+loose_within list edit next loose others jobs room is was named few fits =
+    let lengths = edited_lengths list edit next is in
+    let all = lengths.all in
+    let block = one_at_most edit.block in
+    let segment = one_at_most edit.segment in
+    omega (arith, all, block, segment, was, named, few, fits)
 
 fits_less : (room : CommitRoom) (list next : ListBody) (loose more jobs : ℕ) → GrewByOne list loose next more → CommitFits room list loose (1 + jobs) → CommitFits room next more jobs
 fits_less room list next loose more jobs grew fits = record {

@@ -1,5 +1,8 @@
 -- What a core stands for after a change of its memory.
 use Rattle.std.proofs.Common.{◌≡◌, ℕ, ◌+◌, ◌<◌, ◌≤◌, List, [], ◌∷◌, ◌++◌, Some, None, Option, refl, sym, ◌∙◌, ap, subst, arith}
+use Rattle.std.specs.Prelude.{Vec}
+use Rattle.std.specs.Vec.{vec_capacity}
+use Rattle.std.specs.declared.alloc.Global.{Global}
 use Rattle.span_types.specs.declared.spans.Span.{Span}
 use Rattle.disk_model.specs.Images.{Image}
 use Rattle.head_log.specs.declared.segment.Segment.{Segment}
@@ -23,7 +26,10 @@ use Rattle.store_images.specs.Settled.{IsSettled}
 use Rattle.store_images.proofs.Growing.{count_of-pushed}
 use Rattle.store_images.proofs.Storing.{settled_now}
 use Rattle.store_core.specs.declared.state.CoreState.{CoreState}
-use Rattle.store_core.specs.Jobs.{HasFreshSegment}
+use Rattle.store_core.specs.declared.jobs.Jobs.{Jobs}
+use Rattle.store_core.specs.Jobs.{HasFreshSegment, SameJobs}
+use Rattle.store_core.specs.Pins.{is_taken, files_at}
+use Rattle.store_core.proofs.JobRooms.{compaction_shown, fit_kept, flush_shown, same_jobs}
 use Rattle.store_core.specs.Cores.{HasState, StandsFor, AreDescribed, tail_of}
 use Rattle.store_core.specs.Waiting.{rows_outside, AreLogged}
 use Rattle.store_core.proofs.Logged.{logged_still}
@@ -206,15 +212,18 @@ stands_broken told told' held held' may_leave may_leave' core live segment ready
 
 -- ---- a write failed
 
-pub has_stopped : (core : CoreState) (faults : ℕ) (m : Machine) → HasState core m → HasState (record core { read_only = Some faults }) (broken faults m)
-has_stopped core faults m has = record {
+-- whatever room the jobs have then, and wherever the pins stand
+pub has_stopped_with : (core : CoreState) (jobs : Jobs) (pins : Vec (Option (List ℕ)) Global) (faults : ℕ) (m : Machine) → HasState core m → SameJobs core.jobs jobs → vec_capacity core.jobs.loose ≤ vec_capacity jobs.loose
+    → ((n : ℕ) → is_taken n pins.items ≡ is_taken n core.pins.items) → ((n : ℕ) → files_at n pins.items ≡ files_at n core.pins.items)
+    → HasState (record core { jobs = jobs; pins = pins; read_only = Some faults }) (broken faults m)
+has_stopped_with core jobs pins faults m has same more taken named = record {
   count = has.count;
   few = has.few;
   live = has.live;
   head = has.head;
   flushing = has.flushing;
-  flush = has.flush;
-  compaction = has.compaction;
+  flush = flush_shown core.jobs.flush jobs.flush m.state.flush same.flush has.flush;
+  compaction = compaction_shown core.jobs.compaction jobs.compaction m.state.compaction same.compaction has.compaction;
   blocks = has.blocks;
   infos = has.infos;
   listed = has.listed;
@@ -223,15 +232,18 @@ has_stopped core faults m has = record {
   segments = has.segments;
   last = has.last;
   floor = has.floor;
-  loose = has.loose;
-  next_file = has.next_file;
-  begun = has.begun;
-  jobs = has.jobs;
+  loose = has.loose ∙ sym same.loose;
+  next_file = has.next_file ∙ sym same.next_file;
+  begun = has.begun ∙ sym same.begun;
+  jobs = fit_kept core.jobs jobs core.list same more has.jobs;
   used = has.used;
-  pins = has.pins;
-  pinned = has.pinned;
+  pins = λ n. has.pins n ∙ sym (taken n);
+  pinned = λ n. has.pinned n ∙ sym (named n);
   read_only = refl;
 }
+
+pub has_stopped : (core : CoreState) (faults : ℕ) (m : Machine) → HasState core m → HasState (record core { read_only = Some faults }) (broken faults m)
+has_stopped core faults m has = has_stopped_with core core.jobs core.pins faults m has (same_jobs core.jobs) (omega arith) (λ n. refl) (λ n. refl)
 
 -- ---- a change of the rows in memory
 

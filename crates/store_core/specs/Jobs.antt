@@ -59,6 +59,11 @@ pub record CommitFits (room : CommitRoom) (list : ListBody) (loose jobs : ℕ) :
   pub files : loose + length list.segments + length list.blocks + 2 * jobs ≤ vec_capacity room.next.loose
   pub text : 29 + 12 * (length list.segments + jobs) + 9 * (length list.blocks + jobs) + 4 * (loose + 2 * jobs) ≤ room.text.room
 
+-- There is room for a list by an edit, a block and a segment more, that names so many files of jobs which stay open: for what the
+-- commits of some jobs make.
+abbrev pub FitsEdit : CommitRoom → ListBody → ℕ → ℕ → Type 0
+FitsEdit room list loose others = (jobs : ℕ) × (1 ≤ jobs) × (others ≤ 2 * jobs) × CommitFits room list loose jobs
+
 -- each open job has room for what the commits of so many jobs make
 pub record HaveRoomFor (count : ℕ) (jobs : Jobs) (list : ListBody) : Type 0 where
   pub flush : IfSome jobs.flush (λ known. (room : CommitRoom) × (known.room ≡ Some room) × CommitFits room list (vec_len jobs.loose) count)

@@ -4,13 +4,14 @@ ghost use Rattle.std.specs.Prelude.{◌≡◌, ℕ, ◌≤◌, ◌<◌, ◌+◌,
 ghost use Rattle.std.specs.Vec.{vec_len, vec_capacity};
 ghost use Rattle.block_list.specs.declared.body.ListBody.{ListBody};
 ghost use Rattle.store_core.specs.Jobs.{CommitFits, HasNoJobs, HaveRoomFor, SameJobs, SameFlush, SameCompaction, files_of_flush, files_of_compaction, one_if, open_jobs};
-ghost use Rattle.store_state.specs.Loose.{compaction_part, flush_part};
+ghost use Rattle.store_state.specs.Edited.{one_of};
+ghost use Rattle.store_state.specs.Loose.{flush_part};
 
-use crate::room::{CommitRoom, MOST_LISTED};
+use crate::room::CommitRoom;
 use block_list::ListBody;
 use span_types::Memory;
 use std::alloc::Global;
-use store_state::FlushFiles;
+use store_state::{FlushFiles, MOST_LISTED};
 
 /// An open flush.
 #[derive(Drop)]
@@ -303,7 +304,7 @@ impl Jobs {
 
     /// The file of an open compaction.
     pub(crate) fn compact_file(&self) -> Option<u32>
-        ensures { compaction_part result ≡ files_of_compaction self.now.compaction }
+        ensures { one_of result ≡ files_of_compaction self.now.compaction }
     {
         match &self.compaction {
             Some(compaction) => Some(compaction.file),

@@ -6,14 +6,14 @@ ghost use Rattle.block_list.specs.Body.{MeetsRules};
 ghost use Rattle.block_list.specs.Commit.{IsListText};
 ghost use Rattle.block_list.specs.declared.body.ListBody.{ListBody};
 ghost use Rattle.store_model.specs.State.{is_among};
-ghost use Rattle.store_core.specs.Jobs.{HasCommitRoom, JobsFit, one_if};
+ghost use Rattle.store_core.specs.Jobs.{HasCommitRoom, one_if};
 ghost use Rattle.store_core.specs.NextList.{IsNextList, IsJoinedList, infos_outside, length_of};
 
 use crate::state::CoreState;
 use block_info::SharedInfo;
 use block_list::{BlockRef, ListBody, PreparedList, SegmentRef};
 use head_log::Segment;
-use store_state::floor_of;
+use store_state::{ListEdit, NewSegment, floor_of};
 
 impl CoreState {
     /// The list that the commit of the open flush makes, with a block of so many rows, and the list's text. They take the
@@ -21,14 +21,11 @@ impl CoreState {
     pub(crate) fn next_list(&mut self, rows: u32) -> (ListBody, PreparedList)
         requires open { IsSome self.now.jobs.flush }
         requires room { HasCommitRoom self.now.jobs self.now.list self.now.infos }
-        requires fit { JobsFit self.now.jobs self.now.list }
         requires few { length_of self.now ≤ 4294967295 }
         requires rules { IfSome self.now.jobs.flush (λ known. (next : ListBody) →
             IsNextList self.now known.files rows next → MeetsRules next) }
         ensures list { IfSome self.old.jobs.flush (λ known. IsNextList self.old known.files rows result.0) }
         ensures text { IsListText result.1 result.0 }
-        ensures few { length result.0.segments + length result.0.loose ≡ length self.old.list.segments + 1
-            + vec_len self.old.jobs.loose + one_if self.old.jobs.compaction }
         ensures flush { IfSome self.old.jobs.flush (λ known.
             self.new.jobs.flush ≡ Some (record known { room = None })) }
         ensures same { self.new ≡ record self.old { jobs = record self.old.jobs { flush = self.new.jobs.flush } } }
@@ -41,11 +38,21 @@ impl CoreState {
             level: 0,
             rows,
         };
-        let last = SegmentRef {
+        let segment = SegmentRef {
             file: files.segment,
             first,
         };
-        room.list_after(&self.list, &self.jobs, block, last, floor)
+        let compaction = self.jobs.compact_file();
+        let edit = ListEdit {
+            next_file: self.jobs.next_file,
+            loose: self.jobs.loose.as_slice(),
+            joined: &[],
+            block: Some(block),
+            segment: Some(NewSegment { segment, floor }),
+            flush: None,
+            compaction,
+        };
+        room.edited(&self.list, edit)
     }
 
     /// The list counts that the commit of the open flush made, with a block of which this is known: no flush is open, its
@@ -89,15 +96,22 @@ impl CoreState {
             IsJoinedList self.now known joined.now rows next → MeetsRules next) }
         ensures list { IfSome self.old.jobs.compaction (λ known. IsJoinedList self.old known joined.now rows result.0) }
         ensures text { IsListText result.1 result.0 }
-        ensures few { length result.0.blocks + length result.0.loose ≡ length self.old.list.blocks + 1
-            + vec_len self.old.jobs.loose + 2 * one_if self.old.jobs.flush }
         ensures compaction { IfSome self.old.jobs.compaction (λ known.
             self.new.jobs.compaction ≡ Some (record known { room = None })) }
         ensures same { self.new ≡ record self.old { jobs = record self.old.jobs { compaction = self.new.jobs.compaction } } }
     {
         let (file, level, room) = self.jobs.take_compact_room();
-        let block = BlockRef { file, level, rows };
-        room.list_joined(&self.list, &self.jobs, joined, block)
+        let flush = self.jobs.flush_files();
+        let edit = ListEdit {
+            next_file: self.jobs.next_file,
+            loose: self.jobs.loose.as_slice(),
+            joined,
+            block: Some(BlockRef { file, level, rows }),
+            segment: None,
+            flush,
+            compaction: None,
+        };
+        room.edited(&self.list, edit)
     }
 
     /// The list counts that the commit of the open compaction made, with a block of which this is known, in the place of those in

@@ -1,15 +1,18 @@
 -- What commits make of a list.
-use Rattle.std.proofs.Common.{rules, ◌≡◌, ℕ, append_assoc, ◌+◌, ◌<◌, ◌≤◌, min, nat_le, List, [], ◌∷◌, ◌++◌, Bool, true, false, not, Option, Some, refl, sym, ◌∙◌, ap, arith, ◌-◌, length, length-append, map, filter, if◌then◌else◌}
+use Rattle.std.proofs.Common.{rules, ◌≡◌, ℕ, append_assoc, ◌+◌, ◌<◌, ◌≤◌, min, nat_le, List, [], ◌∷◌, ◌++◌, Bool, true, false, not, Option, None, Some, refl, sym, ◌∙◌, ap, arith, length, length-append, map, filter, if◌then◌else◌}
 use Rattle.std.proofs.lemmas.List.{length-map}
 use Rattle.span_types.specs.declared.spans.Row.{Row}
 use Rattle.block_list.specs.declared.body.BlockRef.{BlockRef}
 use Rattle.block_list.specs.declared.body.SegmentRef.{SegmentRef}
+use Rattle.block_list.specs.declared.body.ListBody.{ListBody}
 use Rattle.store_model.specs.State.{State, Block, Segment, block_files, is_among, live_rows}
 use Rattle.store_model.specs.Choice.{in_files, outside_files}
 use Rattle.store_model.specs.After.{floor_after, least, released, staying}
 use Rattle.live_traces.specs.Parts.{least_number, least_with}
+use Rattle.store_state.specs.Edited.{Edit, HaveStayed, IsEdited, one_of, released_by}
 use Rattle.store_state.specs.Listed.{floor_from, ref_of, segment_of}
 use Rattle.store_state.specs.Parted.{inside, outside}
+use Rattle.store_state.specs.declared.listing.NewSegment.{NewSegment}
 
 pub map_append : {X Y : Type 0} (f : X → Y) (xs ys : List X) → map f (xs ++ ys) ≡ map f xs ++ map f ys
 map_append f [] ys = refl
@@ -124,24 +127,6 @@ parted_length floor (a ∷ b ∷ rest) = by_test (nat_le b.first floor) (parted_
     by_test true h = omega (arith, h)
     by_test false h = omega (arith, h)
 
--- each segment stays, or its file is loose
-pub each_file : (floor : ℕ) (last : SegmentRef) (segments stay : List SegmentRef) (loose all : List ℕ) →
-    map segment_of stay ≡ staying floor (map segment_of (segments ++ last ∷ [])) → all ≡ loose ++ released floor (map segment_of (segments ++ last ∷ [])) →
-    length stay + length all ≡ length segments + 1 + length loose
-each_file floor last segments stay loose all stays go = omega (arith, same, more, both, whole)
-  where
-    same : length stay ≡ length (staying floor (map segment_of (segments ++ last ∷ [])))
-    same = sym (length-map stay segment_of) ∙ ap length stays
-
-    more : length all ≡ length loose + length (released floor (map segment_of (segments ++ last ∷ [])))
-    more = ap length go ∙ length-append loose (released floor (map segment_of (segments ++ last ∷ [])))
-
-    both : length (staying floor (map segment_of (segments ++ last ∷ []))) + length (released floor (map segment_of (segments ++ last ∷ []))) ≡ length (map segment_of (segments ++ last ∷ []))
-    both = parted_length floor (map segment_of (segments ++ last ∷ []))
-
-    whole : length (map segment_of (segments ++ last ∷ [])) ≡ length segments + 1
-    whole = length-map (segments ++ last ∷ []) segment_of ∙ length-append segments (last ∷ [])
-
 -- each block stays, or its file is loose
 sides_length : (files : List ℕ) (blocks : List BlockRef) → length (outside files blocks) + length (inside files blocks) ≡ length blocks
 sides_length files [] = refl
@@ -153,17 +138,60 @@ sides_length files (b ∷ bs) = by_test (is_among b.file files) (sides_length fi
     by_test true h = omega (arith, h)
     by_test false h = omega (arith, h)
 
--- the same where a block and loose files are listed beside them
-pub each_side : (joined : List ℕ) (block : BlockRef) (blocks stay : List BlockRef) (loose all : List ℕ) →
-    stay ≡ outside joined blocks ++ block ∷ [] → all ≡ loose ++ inside joined blocks →
-    length stay + length all ≡ length blocks + 1 + length loose
-each_side joined block blocks stay loose all stays go = omega (arith, more, both, whole)
+-- each block and each segment stays, or its file is loose
+pub record Lengths (list : ListBody) (edit : Edit) (next : ListBody) : Type 0 where
+  pub blocks : length next.blocks ≤ length list.blocks + length (one_of edit.block)
+  pub segments : length next.segments ≤ length list.segments + length (one_of edit.segment)
+  pub all : length next.blocks + length next.segments + length next.loose
+      ≡ length list.blocks + length list.segments + length edit.loose + length (one_of edit.block) + length (one_of edit.segment) + length edit.others
+
+pub edited_lengths : (list : ListBody) (edit : Edit) (next : ListBody) → IsEdited list edit next → Lengths list edit next
+edited_lengths list edit next is = record {
+  blocks = omega (arith, blocks, sides);
+  segments = omega (arith, segments);
+  all = omega (arith, blocks, sides, segments, loose, front, behind);
+}
   where
-    more : length stay ≡ length (outside joined blocks) + 1
-    more = ap length stays ∙ length-append (outside joined blocks) (block ∷ [])
+    gone : List ℕ
+    gone = inside edit.joined list.blocks
 
-    both : length (outside joined blocks) + length (inside joined blocks) ≡ length blocks
-    both = sides_length joined blocks
+    released_files : List ℕ
+    released_files = released_by edit.segment list.segments
 
-    whole : length all ≡ length loose + length (inside joined blocks)
-    whole = ap length go ∙ length-append loose (inside joined blocks)
+    blocks : length next.blocks ≡ length (outside edit.joined list.blocks) + length (one_of edit.block)
+    blocks = ap length is.blocks ∙ length-append (outside edit.joined list.blocks) (one_of edit.block)
+
+    sides : length (outside edit.joined list.blocks) + length gone ≡ length list.blocks
+    sides = sides_length edit.joined list.blocks
+
+    by_segment : (new : Option NewSegment) → HaveStayed new list.segments next.segments →
+        length next.segments + length (released_by new list.segments) ≡ length list.segments + length (one_of new)
+    by_segment None same = omega (arith, ap length same)
+    by_segment (Some new) stays =
+        let all : List SegmentRef = list.segments ++ new.segment ∷ [] in
+        let same = sym (length-map next.segments segment_of) ∙ ap length stays in
+        let both = parted_length new.floor (map segment_of all) in
+        let whole = length-map all segment_of ∙ length-append list.segments (new.segment ∷ []) in
+        omega (arith, same, both, whole)
+
+    segments : length next.segments + length released_files ≡ length list.segments + length (one_of edit.segment)
+    segments = by_segment edit.segment is.segments
+
+    loose : length next.loose ≡ length (edit.loose ++ gone ++ released_files) + length edit.others
+    loose = ap length is.its_loose ∙ length-append (edit.loose ++ gone ++ released_files) edit.others
+
+    front : length (edit.loose ++ gone ++ released_files) ≡ length (edit.loose ++ gone) + length released_files
+    front = length-append (edit.loose ++ gone) released_files
+
+    behind : length (edit.loose ++ gone) ≡ length edit.loose + length gone
+    behind = length-append edit.loose gone
+
+-- ---- an edit by which no block goes
+
+pub outside_none : (blocks : List BlockRef) → outside [] blocks ≡ blocks
+outside_none [] = refl
+outside_none (b ∷ bs) = ap (λ xs. b ∷ xs) (outside_none bs)
+
+pub inside_none : (blocks : List BlockRef) → inside [] blocks ≡ []
+inside_none [] = refl
+inside_none (b ∷ bs) = inside_none bs

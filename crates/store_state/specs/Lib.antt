@@ -9,6 +9,7 @@ pub mod Kept
 pub mod Shown
 pub mod Loose
 pub mod Listed
+pub mod Edited
 pub mod Pairing
 pub mod Parted
 pub mod Cores

@@ -7,10 +7,6 @@ abbrev pub flush_part : Option FlushFiles → List ℕ
 flush_part None = []
 flush_part (Some files) = files.block ∷ files.segment ∷ []
 
-abbrev pub compaction_part : Option ℕ → List ℕ
-compaction_part None = []
-compaction_part (Some file) = file ∷ []
-
 -- the files of an open flush
 pub record AreFilesOf (files : FlushFiles) (job : Flush) : Type 0 where
   pub block : files.block ≡ job.file

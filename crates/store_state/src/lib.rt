@@ -22,6 +22,6 @@ pub use laws::{
     a_choice_is_few, a_list_parts_blocks_as_the_machine, a_step_tells_what_is_learnt,
     the_floor_is_the_least_that_waits,
 };
-pub use listing::{FlushFiles, Listing, floor_of, list_body, list_compact, list_flush};
+pub use listing::{FlushFiles, ListEdit, ListRoom, MOST_LISTED, NewSegment, edited, floor_of};
 pub use port::{FlushPort, LookPort, Port};
 pub use rounds::{Refusal, Round, Step, begin_cause, write_cause};

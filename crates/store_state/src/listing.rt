@@ -1,18 +1,20 @@
-//! What a store's list names, and what the commits of flushes and compactions make of it. Nothing here takes memory but
-//! `with_room`, which a job that begins calls, so that its commit finds room.
+//! What a commit makes of a store's list: one edit of it. Nothing here takes memory but `ListRoom::after`, which a job that
+//! begins calls, so that its commit finds room.
 
-ghost use Rattle.std.specs.Prelude.{◌≡◌, ◌≤◌, ◌+◌, ◌++◌, ◌∷◌, [], length, map, IfOk};
+ghost use Rattle.std.specs.Prelude.{◌≡◌, ◌≤◌, ◌+◌, ◌++◌, length, IfOk};
 ghost use Rattle.std.specs.Vec.{vec_len, vec_capacity};
-ghost use Rattle.store_model.specs.After.{released, staying};
-ghost use Rattle.store_state.specs.Listed.{KeepsRoom, floor_from, listed_body, segment_of};
-ghost use Rattle.store_state.specs.Loose.{compaction_part, flush_part};
-ghost use Rattle.store_state.specs.Parted.{inside, outside};
+ghost use Rattle.store_state.specs.Edited.{IsEdited, edit_of, floor_with, one_of};
+ghost use Rattle.store_state.specs.Listed.{floor_from};
+ghost use Rattle.store_state.specs.Loose.{flush_part};
 
-use crate::parts::{part_blocks, part_segments};
-use crate::room::{fill, put};
+use crate::parts::{part_all_segments, part_blocks};
+use crate::room::{fill, put, put_some};
 use block_list::{BlockRef, ListBody, SegmentRef};
 use span_types::{Memory, Seq};
 use std::alloc::Global;
+
+/// A list doesn't name more files than there are numbers for.
+pub const MOST_LISTED: usize = 4_294_967_296;
 
 /// The files of an open flush.
 #[derive(Clone, Copy, Debug)]
@@ -23,51 +25,115 @@ pub struct FlushFiles {
     pub segment: u32,
 }
 
-/// What a store's list names, but for the files of open jobs.
-#[derive(Debug, Drop)]
-pub struct Listing {
-    /// The blocks, the oldest first.
-    pub blocks: Vec<BlockRef>,
-    /// The log segments, the oldest first.
-    pub segments: Vec<SegmentRef>,
-    /// The least number of a push of which a row may wait outside of blocks.
+/// A segment that comes last in a list, and the floor that the list has then: segments whose follower begins at or below it go.
+#[derive(Clone, Copy, Debug)]
+pub struct NewSegment {
+    /// The segment.
+    pub segment: SegmentRef,
+    /// The floor: the least number of a push of which a row may wait outside of blocks.
     pub floor: u64,
-    /// Files that are neither blocks nor segments, and not empty yet.
-    pub loose: Vec<u32>,
-    /// The next file number that is given out.
-    pub next_file: u32,
 }
 
-/// A flush's commit: `next` names these blocks with a block at the end, those of these segments with a last one that stay with
-/// the floor, and as loose these files and those of the other segments.
-pub fn list_flush(
-    blocks: &[BlockRef],
-    segments: &[SegmentRef],
-    loose: &[u32],
-    next: &mut Listing,
-    block: BlockRef,
-    last: SegmentRef,
-    floor: u64,
-)
-    requires blocks { length blocks.now + 1 ≤ vec_capacity next.now.blocks }
-    requires segments { length segments.now + 1 ≤ vec_capacity next.now.segments }
-    requires loose { length loose.now + length segments.now ≤ vec_capacity next.now.loose }
-    ensures blocks { next.new.blocks.items ≡ blocks.now ++ block ∷ [] }
-    ensures segments { map segment_of next.new.segments.items
-        ≡ staying floor (map segment_of (segments.now ++ last ∷ [])) }
-    ensures loose { next.new.loose.items
-        ≡ loose.now ++ released floor (map segment_of (segments.now ++ last ∷ [])) }
-    ensures floor { next.new.floor ≡ floor }
-    ensures next_file { next.new.next_file ≡ next.old.next_file }
-    ensures each_file { length next.new.segments.items + length next.new.loose.items
-        ≡ length segments.now + 1 + length loose.now }
-    ensures room { KeepsRoom next.old next.new }
+/// What a commit changes of a list. A flush brings a block and a segment, a compaction a block in the place of others, and a
+/// reclaim neither: it names fewer loose files.
+#[derive(Clone, Copy, Debug)]
+pub struct ListEdit<'l, 'j> {
+    /// The next file number that is given out.
+    pub next_file: u32,
+    /// Files that are neither blocks nor segments, and perhaps not empty: the list names these, and those that it makes loose.
+    pub loose: &'l [u32],
+    /// The files of the blocks that go.
+    pub joined: &'j [u32],
+    /// A block that comes last.
+    pub block: Option<BlockRef>,
+    /// A segment that comes last.
+    pub segment: Option<NewSegment>,
+    /// The files of a flush that stays open. The list names them as loose.
+    pub flush: Option<FlushFiles>,
+    /// The file of a compaction that stays open. The list names it as loose.
+    pub compaction: Option<u32>,
+}
+
+/// Room for a list.
+#[derive(Debug, Drop)]
+pub struct ListRoom {
+    /// For its blocks.
+    pub blocks: Vec<BlockRef>,
+    /// For its segments.
+    pub segments: Vec<SegmentRef>,
+    /// For its loose files.
+    pub loose: Vec<u32>,
+}
+
+impl ListRoom {
+    /// Room for each list that two edits may make after this one, while so many files are loose.
+    pub fn after(alloc: Global, list: &ListBody, loose: usize) -> Result<ListRoom, Memory>
+        ensures blocks { IfOk result (λ room. length list.now.blocks + 2 ≤ vec_capacity room.blocks) }
+        ensures segments { IfOk result (λ room. length list.now.segments + 2 ≤ vec_capacity room.segments) }
+        ensures loose { IfOk result (λ room.
+            loose + length list.now.segments + length list.now.blocks + 4 ≤ vec_capacity room.loose) }
+        ensures few_blocks { IfOk result (λ room. length list.now.blocks ≤ 4294967296) }
+        ensures few_segments { IfOk result (λ room. length list.now.segments ≤ 4294967296) }
+        ensures few_loose { IfOk result (λ room. loose ≤ 4294967296) }
+    {
+        let (blocks, segments) = (list.blocks.len(), list.segments.len());
+        if blocks > MOST_LISTED || segments > MOST_LISTED || loose > MOST_LISTED {
+            return Err(Memory);
+        }
+        let loose = Vec::with_capacity(alloc, loose + segments + blocks + 4)?;
+        let blocks = Vec::with_capacity(alloc, blocks + 2)?;
+        let segments = Vec::with_capacity(alloc, segments + 2)?;
+        Ok(ListRoom {
+            blocks,
+            segments,
+            loose,
+        })
+    }
+}
+
+/// The list after this one by an edit, in room that was taken for it.
+pub fn edited(list: &ListBody, edit: ListEdit<'_, '_>, room: ListRoom) -> ListBody
+    requires blocks { length list.now.blocks + 1 ≤ vec_capacity room.blocks }
+    requires segments { length list.now.segments + 1 ≤ vec_capacity room.segments }
+    requires loose { length edit.loose.now + length list.now.blocks + length list.now.segments
+        + length (flush_part edit.flush) + length (one_of edit.compaction) ≤ vec_capacity room.loose }
+    ensures { IsEdited list.now (edit_of edit.entry) result }
 {
-    fill(&mut next.blocks, blocks);
-    put(&mut next.blocks, block);
-    fill(&mut next.loose, loose);
-    next.floor = floor;
-    part_segments(segments, last, floor, &mut next.segments, &mut next.loose);
+    let ListRoom {
+        blocks,
+        segments,
+        loose,
+    } = room;
+    let (mut blocks, mut segments, mut loose) = (blocks, segments, loose);
+    fill(&mut loose, edit.loose);
+    part_blocks(list.blocks.as_slice(), edit.joined, &mut blocks, &mut loose);
+    put_some(&mut blocks, edit.block);
+    part_all_segments(
+        list.segments.as_slice(),
+        edit.segment,
+        &mut segments,
+        &mut loose,
+    );
+    put_flush(&mut loose, edit.flush);
+    put_some(&mut loose, edit.compaction);
+    ListBody {
+        generation: list.generation.wrapping_add(1),
+        next_file: edit.next_file,
+        floor: new_floor(edit.segment, list.floor),
+        segments: Seq::of(segments),
+        blocks: Seq::of(blocks),
+        loose: Seq::of(loose),
+    }
+}
+
+// The floor with a new segment, or as it is.
+fn new_floor(new: Option<NewSegment>, floor: u64) -> u64
+    ensures { result ≡ floor_with new floor }
+{
+    match new {
+        None => floor,
+        Some(segment) => segment.floor,
+    }
 }
 
 /// The floor from the history's length and the least number that waits.
@@ -77,62 +143,6 @@ pub fn floor_of(count: u64, least: Option<u64>) -> u64
     match least {
         None => count,
         Some(number) => number.min(count),
-    }
-}
-
-/// A compaction's commit: `next` names those of these blocks that aren't in the joined files, with a block at the end, and
-/// as loose these files and those of the other blocks. It leaves the segments, the floor and the next file alone.
-pub fn list_compact(
-    blocks: &[BlockRef],
-    loose: &[u32],
-    next: &mut Listing,
-    joined: &[u32],
-    block: BlockRef,
-)
-    requires blocks { length blocks.now + 1 ≤ vec_capacity next.now.blocks }
-    requires loose { length loose.now + length blocks.now ≤ vec_capacity next.now.loose }
-    ensures blocks { next.new.blocks.items ≡ outside joined.now blocks.now ++ block ∷ [] }
-    ensures loose { next.new.loose.items ≡ loose.now ++ inside joined.now blocks.now }
-    ensures segments { next.new.segments ≡ next.old.segments }
-    ensures floor { next.new.floor ≡ next.old.floor }
-    ensures next_file { next.new.next_file ≡ next.old.next_file }
-    ensures each_file { length next.new.blocks.items + length next.new.loose.items
-        ≡ length blocks.now + 1 + length loose.now }
-    ensures room { KeepsRoom next.old next.new }
-{
-    fill(&mut next.loose, loose);
-    part_blocks(blocks, joined, &mut next.blocks, &mut next.loose);
-    put(&mut next.blocks, block);
-}
-
-/// The list that is committed. As loose it names also the files of the jobs that stay open.
-pub fn list_body(
-    listing: Listing,
-    generation: u8,
-    flush: Option<FlushFiles>,
-    compaction: Option<u32>,
-) -> ListBody
-    requires { length listing.loose.items + length (flush_part flush) + length (compaction_part compaction)
-        ≤ vec_capacity listing.loose }
-    ensures body { result ≡ listed_body generation listing flush compaction }
-{
-    let Listing {
-        blocks,
-        segments,
-        floor,
-        loose,
-        next_file,
-    } = listing;
-    let mut loose = loose;
-    put_flush(&mut loose, flush);
-    put_compaction(&mut loose, compaction);
-    ListBody {
-        generation,
-        next_file,
-        floor,
-        segments: Seq::of(segments),
-        blocks: Seq::of(blocks),
-        loose: Seq::of(loose),
     }
 }
 
@@ -146,40 +156,5 @@ fn put_flush(loose: &mut Vec<u32>, flush: Option<FlushFiles>)
     if let Some(files) = flush {
         put(loose, files.block);
         put(loose, files.segment);
-    }
-}
-
-// Adds the file of an open compaction.
-fn put_compaction(loose: &mut Vec<u32>, compaction: Option<u32>)
-    requires { vec_len loose.now + length (compaction_part compaction) ≤ vec_capacity loose.now }
-    ensures { loose.new.items ≡ loose.old.items ++ compaction_part compaction }
-{
-    if let Some(file) = compaction {
-        put(loose, file);
-    }
-}
-
-impl Listing {
-    /// An empty one, which has room for so many blocks, segments and loose files.
-    pub fn with_room(
-        alloc: Global,
-        blocks: usize,
-        segments: usize,
-        loose: usize,
-    ) -> Result<Listing, Memory>
-        ensures blocks { IfOk result (λ listing. blocks ≤ vec_capacity listing.blocks) }
-        ensures segments { IfOk result (λ listing. segments ≤ vec_capacity listing.segments) }
-        ensures loose { IfOk result (λ listing. loose ≤ vec_capacity listing.loose) }
-    {
-        let loose = Vec::with_capacity(alloc, loose)?;
-        let blocks = Vec::with_capacity(alloc, blocks)?;
-        let segments = Vec::with_capacity(alloc, segments)?;
-        Ok(Listing {
-            blocks,
-            segments,
-            floor: 0,
-            loose,
-            next_file: 0,
-        })
     }
 }

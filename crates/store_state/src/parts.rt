@@ -6,14 +6,36 @@ ghost use Rattle.block_list.specs.declared.body.SegmentRef.{SegmentRef};
 ghost use Rattle.block_list.specs.declared.body.BlockRef.{BlockRef};
 ghost use Rattle.store_model.specs.State.{is_among};
 ghost use Rattle.store_model.specs.After.{released, staying};
+ghost use Rattle.store_state.specs.Edited.{HaveStayed, released_by};
 ghost use Rattle.store_state.specs.Listed.{segment_of};
 ghost use Rattle.store_state.specs.Parted.{inside, outside};
 
-use crate::room::put;
+use crate::listing::NewSegment;
+use crate::room::{fill, put};
 use block_list::{BlockRef, SegmentRef};
 
+// The segments with a new one, and the files of those that go then; or the segments as they are.
+pub(crate) fn part_all_segments(
+    now: &[SegmentRef],
+    new: Option<NewSegment>,
+    segments: &mut Vec<SegmentRef>,
+    loose: &mut Vec<u32>,
+)
+    requires segments { length now.now + 1 ≤ vec_capacity segments.now }
+    requires loose { vec_len loose.now + length now.now ≤ vec_capacity loose.now }
+    ensures stay { HaveStayed new now.now segments.new.items }
+    ensures go { loose.new.items ≡ loose.old.items ++ released_by new now.now }
+    ensures loose_len { vec_len loose.new ≤ vec_len loose.old + length now.now }
+    ensures loose_room { vec_capacity loose.old ≤ vec_capacity loose.new }
+{
+    match new {
+        None => fill(segments, now),
+        Some(added) => part_segments(now, added.segment, added.floor, segments, loose),
+    }
+}
+
 // Of the segments and a last one those that stay with a floor, and the files of the others.
-pub(crate) fn part_segments(
+fn part_segments(
     now: &[SegmentRef],
     last: SegmentRef,
     floor: u64,
@@ -26,7 +48,7 @@ pub(crate) fn part_segments(
         ≡ staying floor (map segment_of (now.now ++ last ∷ [])) }
     ensures go { loose.new.items
         ≡ loose.old.items ++ released floor (map segment_of (now.now ++ last ∷ [])) }
-    ensures segments_room { vec_capacity segments.old ≤ vec_capacity segments.new }
+    ensures loose_len { vec_len loose.new ≤ vec_len loose.old + length now.now }
     ensures loose_room { vec_capacity loose.old ≤ vec_capacity loose.new }
 {
     segments.clear();
@@ -90,7 +112,7 @@ pub(crate) fn part_blocks(
     ensures stay { blocks.new.items ≡ outside files.now now.now }
     ensures go { loose.new.items ≡ loose.old.items ++ inside files.now now.now }
     ensures room { vec_len blocks.new + 1 ≤ vec_capacity blocks.new }
-    ensures blocks_room { vec_capacity blocks.old ≤ vec_capacity blocks.new }
+    ensures loose_len { vec_len loose.new ≤ vec_len loose.old + length now.now }
     ensures loose_room { vec_capacity loose.old ≤ vec_capacity loose.new }
 {
     blocks.clear();

@@ -2,6 +2,7 @@
 
 ghost use Rattle.std.specs.Prelude.{◌≡◌, ◌≤◌, ◌+◌, ◌++◌, ◌∷◌, [], length};
 ghost use Rattle.std.specs.Vec.{vec_len, vec_capacity};
+ghost use Rattle.store_state.specs.Edited.{one_of};
 
 // Adds an item that there is room for.
 pub(crate) fn put<T: Copy>(list: &mut Vec<T>, item: T)
@@ -13,6 +14,16 @@ pub(crate) fn put<T: Copy>(list: &mut Vec<T>, item: T)
     match list.push(item) {
         Ok(()) => {}
         Err(_) => prove!(false),
+    }
+}
+
+// Adds an item that there is room for, if there is one.
+pub(crate) fn put_some<T: Copy>(list: &mut Vec<T>, item: Option<T>)
+    requires { vec_len list.now + length (one_of item) ≤ vec_capacity list.now }
+    ensures { list.new.items ≡ list.old.items ++ one_of item }
+{
+    if let Some(item) = item {
+        put(list, item);
     }
 }
 

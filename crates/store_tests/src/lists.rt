@@ -1,37 +1,62 @@
-//! What the commits of flushes and compactions make of a store's list, and which blocks are joined, against lists that
-//! were worked out by hand.
+//! What the commits of flushes and compactions make of a store's list, and which blocks are joined, against lists that were worked out by
+//! hand.
 
-use block_list::{BlockRef, SegmentRef};
-use span_types::Memory;
+use block_list::{BlockRef, ListBody, SegmentRef};
+use span_types::{Memory, Seq};
 use std::alloc::Global;
-use store_state::{FlushFiles, Listing, choose, floor_of, list_body, list_compact, list_flush};
+use store_state::{FlushFiles, ListEdit, ListRoom, NewSegment, choose, edited, floor_of};
 
 fn block(file: u32, level: u8, rows: u32) -> BlockRef {
     BlockRef { file, level, rows }
 }
 
-fn is_list(listing: &Listing, blocks: &[BlockRef], segments: &[(u32, u64)], loose: &[u32]) -> bool {
-    listing.blocks.as_slice() == blocks
-        && listing.segments.len() == segments.len()
-        && listing.segments.iter().zip(segments).all(|(segment, wanted)| (
-            segment.file,
-            segment.first,
-        ) == *wanted)
-        && listing.loose.as_slice() == loose
+// A list of a new store, but for these blocks and segments.
+fn list_of(
+    alloc: Global,
+    blocks: &[BlockRef],
+    segments: &[SegmentRef],
+) -> Result<ListBody, Memory> {
+    let blocks = Vec::from_slice(alloc, blocks)?;
+    let segments = Vec::from_slice(alloc, segments)?;
+    Ok(ListBody {
+        generation: 0,
+        next_file: 3,
+        floor: 0,
+        segments: Seq::of(segments),
+        blocks: Seq::of(blocks),
+        loose: Seq::none(alloc),
+    })
 }
 
-// The list after the commit of a flush at the length 9 of the history, over three segments, of which the pushes from
-// this number on wait.
-fn flushed(alloc: Global, floor: u64) -> Result<Listing, Memory> {
-    let mut next = Listing::with_room(alloc, 1, 4, 3)?;
+fn is_list(list: &ListBody, blocks: &[BlockRef], segments: &[(u32, u64)], loose: &[u32]) -> bool {
+    let listed = list.segments.as_slice();
+    list.blocks.as_slice() == blocks
+        && listed.len() == segments.len()
+        && listed.iter().zip(segments).all(|(segment, wanted)| (segment.file, segment.first)
+            == *wanted)
+        && list.loose.as_slice() == loose
+}
+
+// The list after the commit of a flush at the length 9 of the history, over three segments, of which the pushes from this number on wait.
+fn flushed(alloc: Global, floor: u64) -> Result<ListBody, Memory> {
     let segments = [
         SegmentRef { file: 2, first: 0 },
         SegmentRef { file: 4, first: 3 },
         SegmentRef { file: 6, first: 7 },
     ];
-    let last = SegmentRef { file: 10, first: 9 };
-    list_flush(&[], &segments, &[], &mut next, block(9, 0, 1), last, floor);
-    Ok(next)
+    let list = list_of(alloc, &[], &segments)?;
+    let room = ListRoom::after(alloc, &list, 0)?;
+    let segment = SegmentRef { file: 10, first: 9 };
+    let edit = ListEdit {
+        next_file: 11,
+        loose: &[],
+        joined: &[],
+        block: Some(block(9, 0, 1)),
+        segment: Some(NewSegment { segment, floor }),
+        flush: None,
+        compaction: None,
+    };
+    Ok(edited(&list, edit, room))
 }
 
 #[test]
@@ -63,19 +88,32 @@ fn a_compaction_takes_the_place_of_its_blocks(rt: HostRuntime) -> Result<(), Mem
     let blocks = [block(3, 0, 7), block(5, 1, 9), block(7, 0, 8)];
     let chosen = choose(alloc, &blocks)?;
     assert_eq!(rt; chosen.as_slice(), [0, 2].as_slice());
-    let mut next = Listing::with_room(alloc, 4, 0, 6)?;
-    list_compact(&blocks, &[4], &mut next, &[3, 7], block(9, 1, 15));
-    assert!(rt; is_list(&next, &[block(5, 1, 9), block(9, 1, 15)], &[], &[4, 3, 7]));
+    let list = list_of(alloc, &blocks, &[])?;
+    let room = ListRoom::after(alloc, &list, 1)?;
     // A flush is open: its files are loose in the list that is committed.
-    let files = FlushFiles {
+    let flush = FlushFiles {
         block: 10,
         segment: 11,
     };
-    next.next_file = 12;
-    next.loose.reserve(3)?;
-    let body = list_body(next, 1, Some(files), None);
-    assert_eq!(rt; body.loose.as_slice(), [4, 3, 7, 10, 11].as_slice());
-    assert_eq!(rt; (body.generation, body.next_file, body.floor), (1, 12, 0));
+    let edit = ListEdit {
+        next_file: 12,
+        loose: &[4],
+        joined: &[3, 7],
+        block: Some(block(9, 1, 15)),
+        segment: None,
+        flush: Some(flush),
+        compaction: None,
+    };
+    let next = edited(&list, edit, room);
+    assert!(rt;
+        is_list(
+            &next,
+            &[block(5, 1, 9), block(9, 1, 15)],
+            &[],
+            &[4, 3, 7, 10, 11]
+        )
+    );
+    assert_eq!(rt; (next.generation, next.next_file, next.floor), (1, 12, 0));
     Ok(())
 }
 

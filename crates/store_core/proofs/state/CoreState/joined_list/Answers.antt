@@ -1,14 +1,16 @@
-use Rattle.std.proofs.Common.{◌≡◌, ◌∙◌, ℕ, ◌+◌, Option, IsSome, refl, sym, ap, subst, arith}
+use Rattle.std.proofs.Common.{◌≡◌, ◌≤◌, ◌∙◌, ℕ, ◌+◌, ◌*◌, List, length, Option, IsSome, refl, sym, ap, subst, arith}
+use Rattle.std.proofs.lemmas.List.{append-nil}
 use Rattle.std.proofs.lemmas.Option.{IfSome_then}
 use Rattle.std.specs.Prelude.{Vec}
-use Rattle.std.specs.Vec.{vec_len}
 use Rattle.std.specs.declared.alloc.Global.{Global}
-use Rattle.store_core.specs.Jobs.{CommitFits, files_of_flush, one_if}
+use Rattle.store_core.specs.Jobs.{files_of_flush, one_if, open_jobs}
 use Rattle.store_core.specs.declared.jobs.OpenCompaction.{OpenCompaction}
 use Rattle.store_core.specs.declared.jobs.OpenFlush.{OpenFlush}
 use Rattle.store_core.specs.declared.room.CommitRoom.{CommitRoom}
 use Rattle.store_core.specs.declared.state.CoreState.{CoreState}
-use Rattle.store_core.proofs.NextTaken.{as_joined, room_is, some_of, if_some, to_some}
+use Rattle.store_state.specs.Loose.{flush_part}
+use Rattle.store_core.proofs.RoomLeft.{two_of_flush}
+use Rattle.store_core.proofs.NextTaken.{as_joined, room_fits, room_is, some_of, if_some, to_some}
 use Rattle.store_core.proofs.state.CoreState.joined_list.Goals as goal
 
 pub take_compact_room-file-requires-clause-open : goal.take_compact_room-file-requires-clause-open
@@ -17,29 +19,28 @@ take_compact_room-file-requires-clause-open c = c.requires.open
 pub take_compact_room-file-requires-clause-room : goal.take_compact_room-file-requires-clause-room
 take_compact_room-file-requires-clause-room c = IfSome_then c.args.self.now.jobs.compaction c.requires.room.rooms.compaction (λ known ready. subst (λ (r : Option CommitRoom). IsSome r) (sym ready.1) refl)
 
-pub list_joined-requires-clause-fits : goal.list_joined-requires-clause-fits
-list_joined-requires-clause-fits c =
+pub edited-requires-clause-fits : goal.edited-requires-clause-fits
+edited-requires-clause-fits c =
     let core : CoreState = c.args.self.now in
     let known = some_of core.jobs.compaction c.requires.open in
     let taken = if_some _ core.jobs.compaction known.0 known.1 c.take_compact_room-file.ensures.taken in
     let ready = if_some _ core.jobs.compaction known.0 known.1 c.requires.room.rooms.compaction in
+    let same = c.take_compact_room-file.ensures.same in
     let one : one_if core.jobs.compaction ≡ 1 = ap (λ (o : Option OpenCompaction). one_if o) known.1 in
-    let jobs : one_if core.jobs.flush + one_if core.jobs.compaction ≡ 1 + one_if core.jobs.flush = omega (arith, one) in
-    subst (λ (o : Option OpenFlush). CommitFits c.take_compact_room-file.result.2 core.list (vec_len c.take_compact_room-file.new.self.loose) (1 + one_if o)) (sym c.take_compact_room-file.ensures.same.3)
-    (subst (λ (v : Vec ℕ Global). CommitFits c.take_compact_room-file.result.2 core.list (vec_len v) (1 + one_if core.jobs.flush)) (sym c.take_compact_room-file.ensures.same.2)
-    (subst (λ (n : ℕ). CommitFits c.take_compact_room-file.result.2 core.list (vec_len core.jobs.loose) n) jobs
-    (subst (λ (r : CommitRoom). CommitFits r core.list (vec_len core.jobs.loose) (one_if core.jobs.flush + one_if core.jobs.compaction)) (room_is ready.0 c.take_compact_room-file.result.2 (sym ready.1 ∙ taken.2)) ready.2)))
+    let other = ap (λ (l : List ℕ). length l) (c.flush_files-flush.ensures ∙ ap files_of_flush same.3) ∙ two_of_flush core.jobs.flush in
+    let len = ap (λ (l : List ℕ). length l) (c.as_slice.ensures.value ∙ ap (λ (v : Vec ℕ Global). v.items) same.2) ∙ sym core.jobs.loose.ok.0 in
+    let few : length (flush_part c.flush_files-flush.result) + 0 ≤ 2 * open_jobs core.jobs = omega (arith, one, other) in
+    room_fits core ready.0 c.take_compact_room-file.result.2 _ _ (room_is ready.0 c.take_compact_room-file.result.2 (sym ready.1 ∙ taken.2)) len (omega (arith, one)) few ready.2
 
-pub list_joined-requires-clause-rules : goal.list_joined-requires-clause-rules
-list_joined-requires-clause-rules c = λ next after.
+pub edited-requires-clause-rules : goal.edited-requires-clause-rules
+edited-requires-clause-rules c = λ next after.
     let core : CoreState = c.args.self.now in
     let known = some_of core.jobs.compaction c.requires.open in
     let taken = if_some _ core.jobs.compaction known.0 known.1 c.take_compact_room-file.ensures.taken in
     let same = c.take_compact_room-file.ensures.same in
-    let mid = c.take_compact_room-file.new.self in
     if_some _ core.jobs.compaction known.0 known.1 c.requires.rules next
-    (as_joined core known.0 c.args.joined.now c.take_compact_room-file.result.0 c.take_compact_room-file.result.1 c.args.rows mid.next_file mid.loose.items (files_of_flush mid.flush) next
-    taken.0 taken.1 same.1 (ap (λ (v : Vec ℕ Global). v.items) same.2) (ap files_of_flush same.3) after)
+    (as_joined core known.0 c.args.joined.now c.take_compact_room-file.result.0 c.take_compact_room-file.result.1 c.args.rows c.take_compact_room-file.new.self.next_file _ _ next
+    taken.0 taken.1 same.1 (c.as_slice.ensures.value ∙ ap (λ (v : Vec ℕ Global). v.items) same.2) (append-nil (flush_part c.flush_files-flush.result) ∙ c.flush_files-flush.ensures ∙ ap files_of_flush same.3) after)
 
 pub returns-clause-list : goal.returns-clause-list
 returns-clause-list c =
@@ -47,18 +48,9 @@ returns-clause-list c =
     let known = some_of core.jobs.compaction c.requires.open in
     let taken = if_some _ core.jobs.compaction known.0 known.1 c.take_compact_room-file.ensures.taken in
     let same = c.take_compact_room-file.ensures.same in
-    let mid = c.take_compact_room-file.new.self in
     to_some _ core.jobs.compaction known.0 known.1
-    (as_joined core known.0 c.args.joined.now c.take_compact_room-file.result.0 c.take_compact_room-file.result.1 c.args.rows mid.next_file mid.loose.items (files_of_flush mid.flush) c.list_joined.result.0
-    taken.0 taken.1 same.1 (ap (λ (v : Vec ℕ Global). v.items) same.2) (ap files_of_flush same.3) c.list_joined.ensures.list)
-
-pub returns-clause-few : goal.returns-clause-few
-returns-clause-few c =
-    let core : CoreState = c.args.self.now in
-    let few = c.list_joined.ensures.few in
-    let len : vec_len c.take_compact_room-file.new.self.loose ≡ vec_len core.jobs.loose = ap (λ (v : Vec ℕ Global). vec_len v) c.take_compact_room-file.ensures.same.2 in
-    let other : one_if c.take_compact_room-file.new.self.flush ≡ one_if core.jobs.flush = ap (λ (o : Option OpenFlush). one_if o) c.take_compact_room-file.ensures.same.3 in
-    omega (arith, few, len, other)
+    (as_joined core known.0 c.args.joined.now c.take_compact_room-file.result.0 c.take_compact_room-file.result.1 c.args.rows c.take_compact_room-file.new.self.next_file _ _ c.edited.result.0
+    taken.0 taken.1 same.1 (c.as_slice.ensures.value ∙ ap (λ (v : Vec ℕ Global). v.items) same.2) (append-nil (flush_part c.flush_files-flush.result) ∙ c.flush_files-flush.ensures ∙ ap files_of_flush same.3) c.edited.ensures.list)
 
 pub returns-clause-compaction : goal.returns-clause-compaction
 returns-clause-compaction c = IfSome_then c.args.self.now.jobs.compaction c.take_compact_room-file.ensures.taken (λ known taken. taken.3)

@@ -8,9 +8,9 @@ use Rattle.store_model.specs.State.{without_pin}
 use Rattle.store_core.specs.Pins.{is_taken, files_at}
 use Rattle.store_core.specs.declared.state.CoreState.{CoreState}
 use Rattle.store_core.proofs.CommitAnswers.{did_stopped}
-use Rattle.store_core.proofs.NextRoom.{text_short}
+use Rattle.store_core.proofs.CommitRuns.{ran_by, synced_by}
 use Rattle.store_core.proofs.CommitEvents.{compact_commits, no_commit, did_sync_fail}
-use Rattle.store_core.proofs.CompactAnswers.{rules_joined, joins, pins_ended, taken_inside, spent_is, infos_spent, unsure_spent, unsure_after, next_generation, pin_back, files_back, has_stopped_spent, others_fit, took_joined, pins_after}
+use Rattle.store_core.proofs.CompactAnswers.{rules_joined, joins, pins_ended, taken_inside, spent_is, infos_spent, unsure_spent, unsure_after, next_generation, pin_back, files_back, has_stopped_spent, others_fit, loose_fits, took_joined, pins_after}
 use Rattle.store_core.proofs.CompactCommits.{did_compact_committed, did_compact_fail}
 use Rattle.store_core.proofs.Looking.{ShowsPins}
 use Rattle.store_core.proofs.OpenCompactions.{compaction_here}
@@ -49,6 +49,16 @@ take_over_joined-requires-clause-other g c =
     others_fit core.state c.joined_list-list.new.self mine.mine c.take_files-joined.new.pins c.as_slice.result.now c.rows_in.result c.joined_list-list.result.0 mine.known
     (spent_is core.state c.joined_list-list.new.self mine.mine c.take_files-joined.new.pins mine.known s.same s.compaction) s.list
 
+pub take_over_joined-requires-clause-loose : goal.take_over_joined-requires-clause-loose
+take_over_joined-requires-clause-loose g c =
+    let core = c.args.self.now in
+    let known = c.requires.job in
+    let job = c.args.job in
+    let mine = compaction_here core.state known.0 known.0 job.out.number job.out.file job.level job.pin.number (info_files job.pin.blocks) known.1.state.has known.2 known.1.state.has in
+    let s = c.joined_list-list.ensures in
+    loose_fits core.state c.joined_list-list.new.self mine.mine c.take_files-joined.new.pins c.as_slice.result.now c.rows_in.result c.joined_list-list.result.0 known.0 known.1.state.has mine.known
+    (spent_is core.state c.joined_list-list.new.self mine.mine c.take_files-joined.new.pins mine.known s.same s.compaction) s.list
+
 pub give_back-requires : goal.give_back-requires
 give_back-requires g c =
     let core = c.args.self.now in
@@ -83,28 +93,11 @@ returns-in-Ok-commit g c =
     let follows = s.text.generation ∙ next_generation core.state mine.mine c.as_slice.result.now c.rows_in.result list mine.known s.list in
     did_compact_committed d g.met.D.Device.only_now core c.sync.new.self c.commit.new.disk job.out.number job.out.file job.level job.pin.number (slot_of text) job.pin.blocks c.args.info list
     (joins d core known.0 known.1.state job.out.number job.out.file job.level job.pin.number job.pin.blocks known.2 c.args.info writes c.requires.size c.requires.names c.requires.block list c.as_slice.result.now c.rows_in.result files c.rows_in.ensures s.list)
-    _ (record {
-      telling = c.in-Ok.ensures.counted.telling;
-      same = e.same_bytes;
-      crash = e.crash;
-      time = e.time;
-      lasting = c.in-Ok.ensures.lasting;
-      result = _;
-      fine = refl;
-      made = plain_calls d core.disk c.sync.new.self _ 0 e.time.later c.in-Ok.ensures.counted;
-    })
-    (record {
-      below = omega arith;
-      run = λ told ready. w.any_moment told (can_lay (d.held c.sync.new.self) (d.may_leave c.sync.new.self) (Some core.state.list) text ready follows) (Some core.state.list) list ready.stands follows s.text;
-      besides = w.besides;
-      telling = w.counted.telling;
-      end = _;
-      short = text_short text list s.text;
-      made = c.in-Ok-commit.ensures.counted;
-    })
+    _ (synced_by d core.disk c.sync.new.self _ _ refl c.in-Ok.ensures.counted e.same_bytes e.crash e.time c.in-Ok.ensures.lasting)
+    (ran_by d c.sync.new.self c.commit.new.disk core.state.list list text _ follows s.text w.any_moment w.besides c.in-Ok-commit.ensures.counted)
     refl c.take_over_joined.new.self (unsure_after core.state c.joined_list-list.new.self c.take_over_joined.new.self mine.mine pins is t.same.4)
     (took_joined core.state c.joined_list-list.new.self c.take_over_joined.new.self list c.args.info c.as_slice-in-Ok-commit.result.now (info_files job.pin.blocks) mine.mine pins mine.known is (c.as_slice-in-Ok-commit.ensures ∙ f.result ∙ mine.named)
-    s.few t.list t.infos t.jobs t.loose t.room t.same)
+    t.list t.infos t.jobs t.loose t.room t.same)
     (λ m has.
     subst (λ (items : List (Option (List ℕ))). ShowsPins (without_pin (compaction_here core.state known.0 m job.out.number job.out.file job.level job.pin.number (info_files job.pin.blocks) known.1.state.has known.2 has).mine.pin m.state.pins) items) (sym (pins_after core.state c.joined_list-list.new.self c.take_over_joined.new.self mine.mine pins is t.same.2))
     (pins_ended d core known.0 known.1.state job.out.number job.out.file job.level job.pin.number job.pin.blocks known.2 c.args.info writes c.requires.size c.requires.names c.requires.block pins.items f.taken f.files m has))
@@ -133,25 +126,8 @@ returns g c =
     did_stopped d core c.stop_writing-in-Err.new.self _ _ c.stop_writing-in-Err.ensures
     (did_compact_fail d g.met.D.Device.only_now core c.sync.new.self c.commit.new.disk job.out.number job.out.file job.level job.pin.number (slot_of text) job.pin.blocks c.args.info list
     (joins d core known.0 known.1.state job.out.number job.out.file job.level job.pin.number job.pin.blocks known.2 c.args.info writes c.requires.size c.requires.names c.requires.block list c.as_slice.result.now c.rows_in.result (c.as_slice.ensures ∙ f.result ∙ mine.named) c.rows_in.ensures s.list)
-    _ (record {
-      telling = c.in-Ok.ensures.counted.telling;
-      same = e.same_bytes;
-      crash = e.crash;
-      time = e.time;
-      lasting = c.in-Ok.ensures.lasting;
-      result = _;
-      fine = refl;
-      made = plain_calls d core.disk c.sync.new.self _ 0 e.time.later c.in-Ok.ensures.counted;
-    })
-    (record {
-      below = omega arith;
-      run = λ told ready. w.any_moment told (can_lay (d.held c.sync.new.self) (d.may_leave c.sync.new.self) (Some core.state.list) text ready follows) (Some core.state.list) list ready.stands follows s.text;
-      besides = w.besides;
-      telling = w.counted.telling;
-      end = _;
-      short = text_short text list s.text;
-      made = c.in-Err.ensures.counted;
-    })
+    _ (synced_by d core.disk c.sync.new.self _ _ refl c.in-Ok.ensures.counted e.same_bytes e.crash e.time c.in-Ok.ensures.lasting)
+    (ran_by d c.sync.new.self c.commit.new.disk core.state.list list text _ follows s.text w.any_moment w.besides c.in-Err.ensures.counted)
     _
     (λ m has.
     has_stopped_spent core.state c.joined_list-list.new.self mine.mine pins c.give_back.new.pins (d.faults c.commit.new.disk) m mine.known is

@@ -1,9 +1,9 @@
-use Rattle.std.proofs.Common.{◌∙◌, Some, refl, arith}
+use Rattle.std.proofs.Common.{◌∙◌, Some, refl}
 use Rattle.disk_model.proofs.CallRuns.{plain_calls}
 use Rattle.block_list.specs.Commit.{slot_of}
 use Rattle.block_list.proofs.ReadyLemmas.{can_lay}
-use Rattle.store_core.proofs.CommitAnswers.{did_stopped, firsts, flush_here, rules_known, commits, next_generation, other_named, infos_spent, unsure_spent, unsure_after_spent, spent_is, has_stopped_spent, took_over}
-use Rattle.store_core.proofs.NextRoom.{text_short}
+use Rattle.store_core.proofs.CommitAnswers.{did_stopped, firsts, flush_here, rules_known, commits, next_generation, other_named, loose_fits, infos_spent, unsure_spent, unsure_after_spent, spent_is, has_stopped_spent, took_over}
+use Rattle.store_core.proofs.CommitRuns.{ran_by, synced_by}
 use Rattle.store_core.proofs.CommitEvents.{flush_commits, no_commit, did_sync_fail}
 use Rattle.store_core.proofs.FlushCommits.{did_flush_committed, did_flush_fail}
 use Rattle.store_core.proofs.States.{none_of}
@@ -35,6 +35,14 @@ take_over-requires-clause-other g c =
     let mine = flush_here core.state known.0 known.0 c.args.job.out.number c.args.job.out.file c.args.job.rows known.1.state.has known.2 known.1.state.has in
     other_named core.state c.next_list-list.new.self mine.mine c.rows_in.result c.next_list-list.result.0 mine.known (spent_is core.state c.next_list-list.new.self mine.mine mine.known s.same s.flush) s.list
 
+pub take_over-requires-clause-loose : goal.take_over-requires-clause-loose
+take_over-requires-clause-loose g c =
+    let core = c.args.self.now in
+    let known = c.requires.job in
+    let s = c.next_list-list.ensures in
+    let mine = flush_here core.state known.0 known.0 c.args.job.out.number c.args.job.out.file c.args.job.rows known.1.state.has known.2 known.1.state.has in
+    loose_fits core.state c.next_list-list.new.self mine.mine c.rows_in.result c.next_list-list.result.0 known.0 known.1.state.has mine.known (spent_is core.state c.next_list-list.new.self mine.mine mine.known s.same s.flush) s.list
+
 -- ---- where the list was made
 
 pub returns-in-Ok-commit : goal.returns-in-Ok-commit
@@ -55,30 +63,13 @@ returns-in-Ok-commit g c =
     did_flush_committed d g.met.D.Device.only_now core c.sync.new.self c.commit.new.disk c.args.job.out.number c.args.job.out.file c.args.info.rows (slot_of text) c.args.job.rows
     (firsts d core known.0 known.1.state c.args.job.out.number c.args.job.out.file c.args.job.rows known.2 c.args.info writes c.requires.size c.requires.names c.requires.block) c.args.info list
     (commits d core known.0 known.1.state c.args.job.out.number c.args.job.out.file c.args.job.rows known.2 c.args.info writes c.requires.size c.requires.names c.requires.block list c.rows_in.result c.rows_in.ensures s.list)
-    _ (record {
-      telling = c.in-Ok.ensures.counted.telling;
-      same = e.same_bytes;
-      crash = e.crash;
-      time = e.time;
-      lasting = c.in-Ok.ensures.lasting;
-      result = _;
-      fine = refl;
-      made = plain_calls d core.disk c.sync.new.self _ 0 e.time.later c.in-Ok.ensures.counted;
-    })
-    (record {
-      below = omega arith;
-      run = λ told ready. w.any_moment told (can_lay (d.held c.sync.new.self) (d.may_leave c.sync.new.self) (Some core.state.list) text ready follows) (Some core.state.list) list ready.stands follows s.text;
-      besides = w.besides;
-      telling = w.counted.telling;
-      end = _;
-      short = text_short text list s.text;
-      made = c.in-Ok-commit.ensures.counted;
-    })
+    _ (synced_by d core.disk c.sync.new.self _ _ refl c.in-Ok.ensures.counted e.same_bytes e.crash e.time c.in-Ok.ensures.lasting)
+    (ran_by d c.sync.new.self c.commit.new.disk core.state.list list text _ follows s.text w.any_moment w.besides c.in-Ok-commit.ensures.counted)
     refl c.take_over.new.self (unsure_after_spent core.state c.next_list-list.new.self c.take_over.new.self mine.mine (spent_is core.state c.next_list-list.new.self mine.mine mine.known s.same s.flush) t.same.2)
     (λ m has.
     let here = flush_here core.state known.0 m c.args.job.out.number c.args.job.out.file c.args.job.rows known.1.state.has known.2 has in
     took_over core.state c.next_list-list.new.self c.take_over.new.self list c.args.info m here.mine has here.known (spent_is core.state c.next_list-list.new.self here.mine here.known s.same s.flush)
-    s.few t.list t.infos t.segment t.empty t.jobs t.loose t.room t.rows t.same)
+    t.list t.infos t.segment t.empty t.jobs t.loose t.room t.rows t.same)
     (g.met.D.Device.held_may_stay c.sync.new.self)
     (λ told ready. o.ready told (can_lay (d.held c.sync.new.self) (d.may_leave c.sync.new.self) (Some core.state.list) text ready follows) (Some core.state.list) list ready s.text)
 
@@ -100,25 +91,8 @@ returns g c =
     (did_flush_fail d g.met.D.Device.only_now core c.sync.new.self c.commit.new.disk c.args.job.out.number c.args.job.out.file c.args.info.rows (slot_of text) c.args.job.rows
     (firsts d core known.0 known.1.state c.args.job.out.number c.args.job.out.file c.args.job.rows known.2 c.args.info writes c.requires.size c.requires.names c.requires.block) c.args.info list
     (commits d core known.0 known.1.state c.args.job.out.number c.args.job.out.file c.args.job.rows known.2 c.args.info writes c.requires.size c.requires.names c.requires.block list c.rows_in.result c.rows_in.ensures s.list)
-    _ (record {
-      telling = c.in-Ok.ensures.counted.telling;
-      same = e.same_bytes;
-      crash = e.crash;
-      time = e.time;
-      lasting = c.in-Ok.ensures.lasting;
-      result = _;
-      fine = refl;
-      made = plain_calls d core.disk c.sync.new.self _ 0 e.time.later c.in-Ok.ensures.counted;
-    })
-    (record {
-      below = omega arith;
-      run = λ told ready. w.any_moment told (can_lay (d.held c.sync.new.self) (d.may_leave c.sync.new.self) (Some core.state.list) text ready follows) (Some core.state.list) list ready.stands follows s.text;
-      besides = w.besides;
-      telling = w.counted.telling;
-      end = _;
-      short = text_short text list s.text;
-      made = c.in-Err.ensures.counted;
-    })
+    _ (synced_by d core.disk c.sync.new.self _ _ refl c.in-Ok.ensures.counted e.same_bytes e.crash e.time c.in-Ok.ensures.lasting)
+    (ran_by d c.sync.new.self c.commit.new.disk core.state.list list text _ follows s.text w.any_moment w.besides c.in-Err.ensures.counted)
     _
     (λ m has.
     let here = flush_here core.state known.0 m c.args.job.out.number c.args.job.out.file c.args.job.rows known.1.state.has known.2 has in

@@ -1,4 +1,7 @@
 use Rattle.std.proofs.Common.{◌∙◌, refl, sym, subst}
+use Rattle.block_list.specs.Body.{MeetsRules}
+use Rattle.block_list.specs.Commit.{IsListText}
+use Rattle.block_list.specs.declared.body.ListBody.{ListBody}
 use Rattle.store_model.specs.Event.Event.{Reclaim}
 use Rattle.store_model.specs.Event.Reply.{Refused}
 use Rattle.store_model.specs.Event.Refusal.{Fault}
@@ -6,6 +9,7 @@ use Rattle.store_core.specs.Events.{Did}
 use Rattle.store_core.specs.declared.store.Core.{Core}
 use Rattle.store_core.proofs.PinnedFiles.{parted_as}
 use Rattle.store_core.proofs.ReclaimEvents.{no_reclaim, lacks_memory, none_loose, none_to_empty, did_reclaim_fail, did_reclaimed, none_there, some_there, kept_fit, named_loose}
+use Rattle.store_core.proofs.ReclaimStates.{kept_list, list_kept}
 use Rattle.store_core.proofs.States.{none_of}
 use Rattle.store_core.proofs.store.Core.reclaim.Goals as goal
 
@@ -36,7 +40,10 @@ returns-in_default-commit_without g c =
     let kept = c.as_slice.result.now in
     let free = c.as_slice-2.result.now in
     let w = c.commit_without.ensures in
-    let text = c.in-Ok-list_without.ensures.text in
+    let made = c.in-Ok-list_without.ensures in
+    let is = kept_list core.state.list core.state.jobs kept c.in-Ok-list_without.list made.list in
+    let text : MeetsRules (list_kept core.state.list core.state.jobs kept) → IsListText c.in-Ok-list_without.text (list_kept core.state.list core.state.jobs kept) =
+    λ rules. subst (λ (l : ListBody). IsListText c.in-Ok-list_without.text l) is (made.text (subst MeetsRules (sym is) rules)) in
     subst (λ (s : Core _). Did g.D.Device core Reclaim (Refused Fault) s) (sym c.stop_writing.ensures)
     (did_reclaim_fail g.D.Device core c.commit_without.new.disk (none_of core.state.read_only c.in_default.not-Some) kept free
     (parted_as core.state.pins.items core.state.jobs.loose.items c.in-Ok.kept.items kept c.in-Ok.free.items free c.as_slice.ensures.value c.as_slice-2.ensures.value c.in-Ok.ensures)
@@ -57,14 +64,17 @@ returns g c =
     let kept = c.as_slice.result.now in
     let free = c.as_slice-2.result.now in
     let w = c.commit_without.ensures in
-    let list = c.in-Ok-list_without.ensures in
+    let made = c.in-Ok-list_without.ensures in
+    let is = kept_list core.state.list core.state.jobs kept c.in-Ok-list_without.list made.list in
+    let text : MeetsRules (list_kept core.state.list core.state.jobs kept) → IsListText c.in-Ok-list_without.text (list_kept core.state.list core.state.jobs kept) =
+    λ rules. subst (λ (l : ListBody). IsListText c.in-Ok-list_without.text l) is (made.text (subst MeetsRules (sym is) rules)) in
     let loose = c.keep_loose.ensures in
     did_reclaimed g.D.Device core c.commit_without.new.disk (none_of core.state.read_only c.in_default.not-Some) kept free
     (parted_as core.state.pins.items core.state.jobs.loose.items c.in-Ok.kept.items kept c.in-Ok.free.items free c.as_slice.ensures.value c.as_slice-2.ensures.value c.in-Ok.ensures)
     (some_there c.in-Ok.free free c.as_slice-2.ensures.value (sym c.is_empty-2.ensures ∙ c.if-is_empty-2.false))
     _ _ c.in-Ok-list_without.ensures.short c.in-Ok-commit_without.ensures.counted
-    (λ told ready may rules. w.kept told core.state.list core.state.jobs.next_file (named_loose core.state kept) ready may (list.text rules))
-    (λ told ready may rules. w.others told core.state.list core.state.jobs.next_file (named_loose core.state kept) ready may (list.text rules))
+    (λ told ready may rules. w.kept told core.state.list core.state.jobs.next_file (named_loose core.state kept) ready may (text rules))
+    (λ told ready may rules. w.others told core.state.list core.state.jobs.next_file (named_loose core.state kept) ready may (text rules))
     w.still refl c.len.result (c.len.ensures ∙ sym c.as_slice-2.ensures.len) c.keep_loose.new.self.loose (loose.loose ∙ c.as_slice-3.ensures.value ∙ sym c.as_slice.ensures.value) loose.room
-    (λ told ready may rules. c.in-Ok-commit_without.ensures.ready told core.state.list core.state.jobs.next_file (named_loose core.state kept) ready may (list.text rules))
-    c.in-Ok-list_without.list c.keep_loose.new.self list.list loose.same
+    (λ told ready may rules. c.in-Ok-commit_without.ensures.ready told core.state.list core.state.jobs.next_file (named_loose core.state kept) ready may (text rules))
+    c.in-Ok-list_without.list c.keep_loose.new.self is loose.same
