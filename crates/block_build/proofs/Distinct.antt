@@ -1,55 +1,21 @@
 -- Rows no two of which are of one span are their own first occurrences.
-use Rattle.std.proofs.Common.{◌≡◌, inl, inr, ℕ, zero, suc, ◌+◌, ◌<◌, Bool, true, false, ◌&&◌, List, [], ◌∷◌, length, map, drop, get_or, Option, Some, None, All, Contains, add-one, refl, ap, ◌∙◌, sym, arith}
+use Rattle.std.proofs.Common.{◌≡◌, inl, inr, zero, suc, false, List, [], ◌∷◌, map, Option, Some, None, All, Contains, refl, ap, ◌∙◌, arith}
 use Rattle.std.specs.List.{AllByRecursion, IsDistinct}
-use Rattle.std.specs.List.Sorted.{IsPermutation, IsSortedBy, IsStrictlySortedBy}
+use Rattle.std.specs.List.Sorted.{IsPermutation, IsSortedBy}
 use Rattle.std.specs.Ordering.{is_lt, is_eq, eq_by_cmp}
-use Rattle.std.specs.declared.cmp.Ordering.{Ordering}
-use Rattle.std.specs.declared.cmp.Ordering.TheVariants.{Less, Equal, Greater}
-use Rattle.std.proofs.lemmas.Bool.{and_parts}
 use Rattle.std.proofs.lemmas.Cmp.{eq_by_cmp_equiv, tied_itself}
-use Rattle.std.proofs.lemmas.List.{drop_more}
-use Rattle.std.proofs.lemmas.List.Sorted.{All-permutation, Contains-permutation, IsPermutation-map, IsPermutation-sym}
-use Rattle.std.proofs.lemmas.Map.Keys.{IsDistinct-from_sorted, IsDistinct-head, IsDistinct-tail, IsDistinct-IsPermutation, sorted_from_all_adjacent}
+use Rattle.std.proofs.lemmas.List.Sorted.{All-permutation, Contains-permutation, IsPermutation-map}
+use Rattle.std.proofs.lemmas.Map.Keys.{IsDistinct-head, IsDistinct-tail, IsDistinct-IsPermutation}
 use Rattle.span_types.specs.declared.ids.Key.{Key}
 use Rattle.span_types.specs.declared.spans.Row.{Row}
 use Rattle.span_types.specs.First.{IsFirstOf, first_at, lesser, row_at}
 use Rattle.span_types.specs.Keys.{row_key}
 use Rattle.span_types.specs.Orders.{block_order, key_cmp}
 use Rattle.span_types.proofs.FirstLaws.{key_cmp_total, strictly_ordered}
-use Rattle.block_build.specs.KeyOrders.{keys_ascend, keys_ascend_after}
 use Rattle.block_build.proofs.Firsts.{chosen, lesser_one}
-
--- ---- keys that ascend
-
-pub ascend_more : (before : Key) (rest : List Key) (i : ℕ) (d : Key) (total : Bool) → i < length rest → is_lt (key_cmp before (get_or rest i d)) ≡ true → keys_ascend_after before (drop i rest) ≡ total
-    → keys_ascend_after (get_or rest i d) (drop (i + 1) rest) ≡ total
-ascend_more before rest i d total low test so_far =
-    let later = drop (i + 1) rest in
-    sym (ap (λ (c : Bool). c && keys_ascend_after (get_or rest i d) later) test) ∙ sym (ap (keys_ascend_after before) (drop_more rest i d low)) ∙ so_far
-
-is_less : (o : Ordering) → is_lt o ≡ true → o ≡ Less
-is_less Less h = refl
-is_less Equal h = cc
-is_less Greater h = cc
-
-below_next : (key : Key) (keys : List Key) (d : Key) → keys_ascend_after key keys ≡ true → (k : ℕ) → suc k < length (key ∷ keys) → key_cmp (get_or (key ∷ keys) k d) (get_or (key ∷ keys) (suc k) d) ≡ Less
-below_next key [] d up k low = absurd (omega (arith, low))
-below_next key (next ∷ keys) d up zero low = is_less (key_cmp key next) (and_parts (is_lt (key_cmp key next)) (keys_ascend_after next keys) up).0
-below_next key (next ∷ keys) d up (suc k) low = below_next next keys d (and_parts (is_lt (key_cmp key next)) (keys_ascend_after next keys) up).1 k (omega (arith, low))
-
-sorted_keys : (keys : List Key) → keys_ascend keys ≡ true → IsStrictlySortedBy key_cmp keys
-unfolding keys_ascend IsStrictlySortedBy
-sorted_keys [] up = tt
-sorted_keys (key ∷ keys) up = sorted_from_all_adjacent key_cmp_total (key ∷ keys) key (λ k low. rw (add-one k) (below_next key keys key up k (omega (arith, low))))
 
 flips : (a b : Key) → eq_by_cmp key_cmp a b ≡ eq_by_cmp key_cmp b a
 flips a b = (eq_by_cmp_equiv key_cmp_total).symm a b
-
-pub distinct_keys : (keys sorted : List Key) → IsPermutation keys sorted → keys_ascend sorted ≡ true → IsDistinct (eq_by_cmp key_cmp) keys
-distinct_keys keys sorted moved up =
-    IsDistinct-IsPermutation (eq_by_cmp key_cmp) flips sorted keys (IsPermutation-sym keys sorted moved) (IsDistinct-from_sorted key_cmp sorted (sorted_keys sorted up))
-
--- ---- rows of distinct keys
 
 -- no key of the list is this one
 abbrev Differ : Key → List Row → Type 0

@@ -1,13 +1,12 @@
 -- A draft grows stripe by stripe.
 use Rattle.std.proofs.Common.{◌≡◌, ℕ, zero, suc, ◌+◌, ◌-◌, ◌*◌, ◌/◌, ◌%◌, ◌^◌, ◌<◌, ◌≤◌, min, Bool, true, false, eqb, List, [], ◌∷◌, ◌++◌, length, take, drop, replicate, refl, sym, ap, subst, ◌∙◌, arith, append_assoc}
 use Rattle.std.specs.Int.{div_ceil}
-use Rattle.std.specs.List.{list_all}
 use Rattle.std.proofs.lemmas.Bool.{eqb-false}
 use Rattle.std.proofs.lemmas.List.{append-nil, drop_all, drop_at, drop_min, drop-append-le, length-append, length-drop, length-replicate, length-take, length-take-le, take-append-drop, take_at, take_min}
 use Rattle.span_types.specs.declared.spans.Row.{Row}
 use Rattle.block_info.specs.declared.info.StripeInfo.{StripeInfo}
 use Rattle.block_format.specs.Blocks.{IsEarliest, IsLatest, StripeHasEntry, StripesHaveEntries, form_of_rows}
-use Rattle.block_format.specs.Headers.{AreFromPage, HasMoments, HasRows, IsAtPage, header_pages}
+use Rattle.block_format.specs.Headers.{HasMoments, HasRows, header_pages}
 use Rattle.block_stripes.specs.StripeEncodings.{after_length, content_bytes, fill_size, padded, stripe_bytes}
 use Rattle.block_stripes.specs.StripeReadings.{ascend}
 use Rattle.block_stripes.specs.Stripes.{StripeHolds, can_be_stripe, has_form, is_extended}

@@ -1,9 +1,9 @@
 -- Parts of rows in block order: each of them can be a stripe.
-use Rattle.std.proofs.Common.{◌≡◌, ℕ, zero, suc, ◌+◌, ◌<◌, ◌≤◌, min, Bool, true, false, not, ◌||◌, ◌&&◌, cond, eqb, ltb, List, [], ◌∷◌, ◌++◌, length, take, drop, append_assoc, if◌then◌else◌, refl, ap, ◌∙◌, sym, arith}
+use Rattle.std.proofs.Common.{◌≡◌, ℕ, zero, suc, ◌≤◌, min, Bool, true, false, not, ◌||◌, ◌&&◌, eqb, ltb, List, [], ◌∷◌, length, take, drop, if◌then◌else◌, refl, ap, ◌∙◌, arith}
 use Rattle.std.specs.List.{list_all, list_any}
 use Rattle.std.specs.Ordering.{is_lt}
 use Rattle.std.proofs.lemmas.Bool.{and_from, and_parts, le-ltb, ne_eqb}
-use Rattle.std.proofs.lemmas.List.{append-nil, drop_all, drop_at, length-take, take_all, take_at}
+use Rattle.std.proofs.lemmas.List.{length-take}
 use Rattle.span_types.specs.declared.spans.Row.{Row}
 use Rattle.span_types.specs.Orders.{block_order}
 use Rattle.block_format.specs.Blocks.{form_of_rows, is_rich}
@@ -90,18 +90,3 @@ first_stripe form rows some order fits =
     and_from (not (is_no_size (length (take 256 rows)))) (ascend (take 256 rows) && list_all (has_form (is_extended form)) (take 256 rows))
     (sized (length (take 256 rows)) (omega (arith, size)) (omega (arith, size)))
     (and_from (ascend (take 256 rows)) (list_all (has_form (is_extended form)) (take 256 rows)) (ascend_front 256 rows order) (all_front (has_form (is_extended form)) 256 rows fits))
-
--- ---- the rows of the next stripe, as a loop takes them
-
-pub taken_more : (taken new rest left : List Row) (row : Row) (all : List Row) → rest ≡ row ∷ left → new ≡ taken ++ row ∷ [] → taken ++ rest ≡ all → new ++ left ≡ all
-taken_more taken new rest left row all next new_is so_far = ap (λ (l : List Row). l ++ left) new_is ∙ append_assoc taken (row ∷ []) left ∙ ap (λ (l : List Row). taken ++ l) (sym next) ∙ so_far
-
-pub taken_full : (taken rest all : List Row) → taken ++ rest ≡ all → length taken ≡ 256 → (taken ≡ take 256 all) × (rest ≡ drop 256 all)
-taken_full taken rest all so_far full = (sym (ap (take 256) (sym so_far) ∙ take_at taken rest 256 full), sym (ap (drop 256) (sym so_far) ∙ drop_at taken rest 256 full))
-
-pub taken_last : (taken rest all : List Row) → taken ++ rest ≡ all → length taken ≤ 256 → length rest ≡ 0 → (taken ≡ take 256 all) × (rest ≡ drop 256 all)
-taken_last taken [] all so_far few none =
-    let same : taken ≡ all = sym (append-nil taken) ∙ so_far in
-    let size : length all ≤ 256 = (let h = ap length same in omega (arith, h, few)) in
-    (same ∙ sym (take_all 256 all size), sym (drop_all 256 all size))
-taken_last taken (row ∷ rest) all so_far few none = absurd (omega (arith, none))

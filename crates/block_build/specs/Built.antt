@@ -1,5 +1,5 @@
 -- Which block is built of rows.
-use Rattle.std.specs.Prelude.{◌≡◌, ℕ, Bool, List}
+use Rattle.std.specs.Prelude.{List}
 use Rattle.span_types.specs.declared.spans.Row.{Row}
 use Rattle.span_types.specs.First.{IsFirstOf}
 use Rattle.block_format.specs.Blocks.{BlockHasInfo}

@@ -1,3 +1,4 @@
 pub mod Drafts
 pub mod Built
-pub mod KeyOrders
+pub mod Merging
+pub mod Settling

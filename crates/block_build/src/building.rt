@@ -8,9 +8,11 @@ ghost use Rattle.block_stripes.specs.StripeReadings.{ascend};
 
 use crate::draft::{Draft, draft_of, header_pages};
 use crate::order::firsts_of;
+use crate::rows::{form_of, ids_of};
 use block_format::{Header, header_is_pages, write_header};
 use block_info::{BlockInfo, StripeInfo, Stripes};
-use block_rows::{Tail, form_of, ids_of, info_of, tail_of};
+use block_rows::{Tail, info_of, tail_of};
+use row_refs::{RowRef, refs_of};
 use span_types::{Bytes, Memory, Rows};
 use std::alloc::Global;
 
@@ -25,9 +27,7 @@ pub struct BuiltBlock {
 
 /// The block of the first occurrences of these rows, of which there are 1 to 1,048,576.
 ///
-/// It is of form 2 exactly where one of the first occurrences has an event or a link. The rows are sorted once, by what
-/// stands beside pointers to them where no two are of one span, and moved into their stripes; each is dropped as soon as
-/// its stripe is written. No row is copied.
+/// It is of form 2 exactly where one of the first occurrences has an event or a link. No row is copied or moved.
 pub fn build(alloc: Global, rows: Rows) -> Result<BuiltBlock, Memory>
     requires some { 1 ≤ length rows }
     requires few { length rows ≤ 1048576 }
@@ -35,22 +35,37 @@ pub fn build(alloc: Global, rows: Rows) -> Result<BuiltBlock, Memory>
     ensures file { IfOk result (λ built. built.info.file ≡ 0) }
     ensures level { IfOk result (λ built. built.info.level ≡ 0) }
 {
+    let refs = refs_of(alloc, rows.as_slice())?;
+    build_refs(alloc, refs.as_slice())
+}
+
+/// The block of borrowed rows, as `build` makes it of rows.
+///
+/// The rows are sorted by what stands beside references to them, which costs one merge where they are joined parts in block
+/// order. Rows of one span are looked for trace by trace, and cost no more than others.
+pub fn build_refs(alloc: Global, rows: &[RowRef<'_>]) -> Result<BuiltBlock, Memory>
+    requires some { 1 ≤ length rows.now }
+    requires few { length rows.now ≤ 1048576 }
+    ensures block { IfOk result (λ built. IsBlockOf rows.now built) }
+    ensures file { IfOk result (λ built. built.info.file ≡ 0) }
+    ensures level { IfOk result (λ built. built.info.level ≡ 0) }
+{
     let firsts = firsts_of(alloc, rows)?;
-    block_of(alloc, firsts)
+    block_of(alloc, firsts.as_slice())
 }
 
 /// The block of rows in block order.
-fn block_of(alloc: Global, rows: Rows) -> Result<BuiltBlock, Memory>
-    requires some { 1 ≤ length rows }
-    requires few { length rows ≤ 1048576 }
-    requires order { ascend rows ≡ true }
-    ensures describes { IfOk result (λ built. BlockHasInfo built.info built.bytes rows) }
+fn block_of(alloc: Global, rows: &[RowRef<'_>]) -> Result<BuiltBlock, Memory>
+    requires some { 1 ≤ length rows.now }
+    requires few { length rows.now ≤ 1048576 }
+    requires order { ascend rows.now ≡ true }
+    ensures describes { IfOk result (λ built. BlockHasInfo built.info built.bytes rows.now) }
     ensures file { IfOk result (λ built. built.info.file ≡ 0) }
     ensures level { IfOk result (λ built. built.info.level ≡ 0) }
 {
     let count = rows.len() as u32;
-    let form = form_of(rows.as_slice());
-    let ids = ids_of(alloc, rows.as_slice())?;
+    let form = form_of(rows);
+    let ids = ids_of(alloc, rows)?;
     let tail = tail_of(alloc, &ids)?;
     let draft = draft_of(alloc, rows, form)?;
     let Draft { bytes, stripes } = draft;

@@ -8,10 +8,11 @@ ghost use Rattle.block_format.specs.Headers.{header_pages};
 ghost use Rattle.block_stripes.specs.StripeReadings.{ascend};
 ghost use Rattle.block_stripes.specs.Stripes.{can_be_stripe, is_extended};
 
-use crate::rows::{STRIPE_ROWS, earliest, latest, next_rows, one_by_one};
-use block_format::write_stripe;
+use crate::rows::{STRIPE_ROWS, earliest, latest, stripe_rows};
 use block_info::StripeInfo;
-use span_types::{Memory, Rows};
+use block_stripes::write_refs;
+use row_refs::RowRef;
+use span_types::Memory;
 use std::alloc::Global;
 
 const PAGE_BYTES: usize = 4096;
@@ -24,28 +25,27 @@ pub struct Draft {
 }
 
 /// The stripes of rows in block order, of which there are 1 to 1,048,576.
-pub fn draft_of(alloc: Global, rows: Rows, form: u8) -> Result<Draft, Memory>
-    requires some { 1 ≤ length rows }
-    requires few { length rows ≤ 1048576 }
-    requires order { ascend rows ≡ true }
-    requires form { form ≡ form_of_rows rows }
-    ensures { IfOk result (λ draft. IsDraft form rows draft.bytes.items draft.stripes.items) }
+pub fn draft_of(alloc: Global, rows: &[RowRef<'_>], form: u8) -> Result<Draft, Memory>
+    requires some { 1 ≤ length rows.now }
+    requires few { length rows.now ≤ 1048576 }
+    requires order { ascend rows.now ≡ true }
+    requires form { form ≡ form_of_rows rows.now }
+    ensures { IfOk result (λ draft. IsDraft form rows.now draft.bytes.items draft.stripes.items) }
 {
-    let count = stripe_count(&rows);
+    let count = stripe_count(rows);
     let front = header_pages(count);
     let mut bytes = zeros(alloc, front * PAGE_BYTES)?;
     let mut stripes = Vec::with_capacity(alloc, count)?;
-    let mut rest = one_by_one(rows);
-    for _ in 0..count {
-        let rows = next_rows(alloc, &mut rest)?;
-        let stripe = put_stripe(alloc, &mut bytes, &rows, form)?;
+    for number in 0..count {
+        let taken = stripe_rows(rows, number);
+        let stripe = put_stripe(alloc, &mut bytes, taken, form)?;
         stripes.push(stripe)?;
     }
     Ok(Draft { bytes, stripes })
 }
 
 /// How many stripes rows have.
-fn stripe_count(rows: &Rows) -> usize
+fn stripe_count(rows: &[RowRef<'_>]) -> usize
     ensures { result ≡ div_ceil (length rows.now) 256 }
 {
     rows.len().div_ceil(STRIPE_ROWS)
@@ -71,18 +71,18 @@ pub fn header_pages(stripes: usize) -> usize
 fn put_stripe(
     alloc: Global,
     bytes: &mut Vec<u8>,
-    rows: &Rows,
+    rows: &[RowRef<'_>],
     form: u8,
 ) -> Result<StripeInfo, Memory>
     requires can { can_be_stripe (is_extended form) rows.now ≡ true }
     requires whole { length bytes.old.items % 4096 ≡ 0 }
     ensures { IfOk result (λ entry. AddsStripe form rows.now bytes.old.items bytes.new.items entry) }
 {
-    let stripe = write_stripe(alloc, rows, form)?;
+    let stripe = write_refs(alloc, rows, form)?;
     let page = bytes.len() / PAGE_BYTES;
     bytes.extend_from_slice(stripe.as_slice())?;
-    let first = earliest(rows.as_slice());
-    let last = latest(rows.as_slice());
+    let first = earliest(rows);
+    let last = latest(rows);
     moments_fit(first, last);
     Ok(StripeInfo {
         page: page as u64,

@@ -7,5 +7,6 @@ mod building;
 mod draft;
 mod order;
 mod rows;
+mod ticket;
 
-pub use building::{BuiltBlock, build};
+pub use building::{BuiltBlock, build, build_refs};

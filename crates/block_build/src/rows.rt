@@ -1,60 +1,96 @@
-//! The rows of a stripe: taking them from all rows, and their moments.
+//! What borrowed rows tell of their block, and the rows of each stripe.
 
-ghost use Rattle.std.specs.Prelude.{◌≡◌, ◌≤◌, IfOk, OnOk, drop, length, take};
-ghost use Rattle.std.specs.Vec.Iter.{into_iter_items};
-ghost use Rattle.block_format.specs.Blocks.{IsEarliest, IsLatest};
+ghost use Rattle.std.specs.Prelude.{◌≡◌, ◌*◌, ◌<◌, ◌≤◌, IfOk, drop, length, take};
+ghost use Rattle.std.specs.List.{All, list_any};
+ghost use Rattle.block_format.specs.Blocks.{IsEarliest, IsLatest, form_of_rows, ids_of, is_rich};
 
-use span_types::{Memory, Row, Rows};
+use row_refs::RowRef;
+use span_types::{Ids, Memory, TraceId};
 use std::alloc::Global;
-use std::vec::IntoIter;
 
 /// How many rows each stripe but the last has.
 pub const STRIPE_ROWS: usize = 256;
 
+/// The form of a block of these rows: 2 where one has an event or a link, else 1.
+pub fn form_of(rows: &[RowRef<'_>]) -> u8
+    ensures { result ≡ form_of_rows rows.now }
+{
+    if any_rich(rows) { 2 } else { 1 }
+}
+
+fn any_rich(rows: &[RowRef<'_>]) -> bool
+    ensures { result ≡ list_any is_rich rows.now }
+{
+    rows.iter().any(|row| is_rich(row))
+}
+
+/// Whether a row has an event or a link.
+fn is_rich(row: &RowRef<'_>) -> bool
+    ensures { result ≡ is_rich row.now }
+{
+    let span = row.span();
+    span.events.len() != 0 || span.links.len() != 0
+}
+
+/// The trace id of each row. Each has 16 bytes, as its type promises.
+pub fn ids_of(alloc: Global, rows: &[RowRef<'_>]) -> Result<Ids, Memory>
+    ensures ids { IfOk result (λ ids. ids ≡ ids_of rows.now) }
+    ensures long { IfOk result (λ ids. All (λ id. length id.0 ≡ 16) ids) }
+{
+    let mut ids = Vec::with_capacity(alloc, rows.len())?;
+    for row in rows {
+        ids.push(long(row.span().trace))?;
+    }
+    Ok(Ids::of(ids))
+}
+
+/// The id itself, of which its type promises that it has 16 bytes.
+fn long(id: TraceId) -> TraceId
+    ensures same { result ≡ id }
+    ensures long { length result.0 ≡ 16 }
+{
+    id
+}
+
 /// The earliest start among rows.
-pub fn earliest(rows: &[Row]) -> u64
+pub fn earliest(rows: &[RowRef<'_>]) -> u64
     requires { 1 ≤ length rows.now }
     ensures { IsEarliest rows.now result }
 {
     let first = &rows[0];
-    let mut earliest = first.span.start;
+    let mut earliest = start_of(first);
     for row in rows {
-        earliest = earliest.min(row.span.start);
+        earliest = earliest.min(start_of(row));
     }
     earliest
 }
 
 /// The latest start among rows.
-pub fn latest(rows: &[Row]) -> u64
+pub fn latest(rows: &[RowRef<'_>]) -> u64
     requires { 1 ≤ length rows.now }
     ensures { IsLatest rows.now result }
 {
     let first = &rows[0];
-    let mut latest = first.span.start;
+    let mut latest = start_of(first);
     for row in rows {
-        latest = latest.max(row.span.start);
+        latest = latest.max(start_of(row));
     }
     latest
 }
 
-/// Rows to be taken one after another.
-pub fn one_by_one(rows: Rows) -> IntoIter<Row>
-    ensures { into_iter_items result ≡ rows }
+/// When a row's span began.
+fn start_of(row: &RowRef<'_>) -> u64
+    ensures { result ≡ row.now.span.start }
 {
-    rows.into_vec().into_iter()
+    row.span().start
 }
 
-/// Takes the rows of the next stripe from those that are left: 256, or all of them.
-pub fn next_rows(alloc: Global, rest: &mut IntoIter<Row>) -> Result<Rows, Memory>
-    ensures taken { IfOk result (λ taken. taken ≡ take 256 (into_iter_items rest.old)) }
-    ensures left { OnOk result (into_iter_items rest.new ≡ drop 256 (into_iter_items rest.old)) }
+/// The rows of the stripe with this number: 256, or all that are left.
+pub fn stripe_rows<'a, 'r>(rows: &'a [RowRef<'r>], number: usize) -> &'a [RowRef<'r>]
+    requires { number < 4096 }
+    ensures { result.now ≡ take 256 (drop (256 * number) rows.now) }
 {
-    let mut taken = Vec::with_capacity(alloc, rest.len().min(STRIPE_ROWS))?;
-    for _ in 0..STRIPE_ROWS {
-        match rest.next() {
-            Some(row) => taken.push(row)?,
-            None => return Ok(Rows::of(taken)),
-        }
-    }
-    Ok(Rows::of(taken))
+    let (_, rest) = rows.split_at(rows.len().min(STRIPE_ROWS * number));
+    let (taken, _) = rest.split_at(rest.len().min(STRIPE_ROWS));
+    taken
 }

@@ -19,4 +19,4 @@ pub use laws::{held_is_read, no_rows_have_no_bytes, one_meaning, read_is_held};
 pub use rows::rows_of_cells;
 pub use starts::{read_size, read_starts};
 pub use stripe_reading::{read_stripe, shared};
-pub use stripe_writing::{can_be_stripe, write_stripe};
+pub use stripe_writing::{can_be_stripe, write_refs, write_stripe};

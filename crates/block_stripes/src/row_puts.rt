@@ -11,7 +11,8 @@ ghost use Rattle.block_stripes.specs.Stripes.{AreIds, AreNames, AreTimes, IsWrit
 
 use block_columns::{Page, Put, put_column, put_counted};
 use block_parts::{PutEvent, PutLink, put_attrs, put_id, put_moment, put_text, put_trace};
-use span_types::{Memory, Resource, Row, Scope, Span, Text};
+use row_refs::RowRef;
+use span_types::{Memory, Resource, Scope, Span, Text};
 
 /// Adds a span's trace.
 fn put_trace_of(page: &mut Page<Text>, span: &Span) -> Result<(), Memory>
@@ -48,13 +49,13 @@ fn put_parent_of(page: &mut Page<Text>, span: &Span) -> Result<(), Memory>
 #[derive(Drop)]
 struct TraceColumn;
 
-impl Put<Text, Row> for TraceColumn {
+impl<'r> Put<Text, RowRef<'r>> for TraceColumn {
     ghost encoding = { λ _. trace_cell };
 
     ghost promise = { λ _ row. IsTrace row.span.trace };
 
-    fn put<'a>(&self, page: &mut Page<'a, Text>, value: &'a Row) -> Result<(), Memory> {
-        put_trace_of(page, &value.span)
+    fn put<'a>(&self, page: &mut Page<'a, Text>, value: &'a RowRef<'r>) -> Result<(), Memory> {
+        put_trace_of(page, value.span())
     }
 }
 
@@ -62,13 +63,13 @@ impl Put<Text, Row> for TraceColumn {
 #[derive(Drop)]
 struct IdColumn;
 
-impl Put<Text, Row> for IdColumn {
+impl<'r> Put<Text, RowRef<'r>> for IdColumn {
     ghost encoding = { λ _. id_cell };
 
     ghost promise = { λ _ row. IsSpanId row.span.id };
 
-    fn put<'a>(&self, page: &mut Page<'a, Text>, value: &'a Row) -> Result<(), Memory> {
-        put_id_of(page, &value.span)
+    fn put<'a>(&self, page: &mut Page<'a, Text>, value: &'a RowRef<'r>) -> Result<(), Memory> {
+        put_id_of(page, value.span())
     }
 }
 
@@ -76,19 +77,19 @@ impl Put<Text, Row> for IdColumn {
 #[derive(Drop)]
 struct ParentColumn;
 
-impl Put<Text, Row> for ParentColumn {
+impl<'r> Put<Text, RowRef<'r>> for ParentColumn {
     ghost encoding = { λ _. parent_cell };
 
     ghost promise = { λ _ row. IsParent row.span.parent };
 
-    fn put<'a>(&self, page: &mut Page<'a, Text>, value: &'a Row) -> Result<(), Memory> {
-        put_parent_of(page, &value.span)
+    fn put<'a>(&self, page: &mut Page<'a, Text>, value: &'a RowRef<'r>) -> Result<(), Memory> {
+        put_parent_of(page, value.span())
     }
 }
 
 /// Adds the columns of ids.
 #[tactic(auto, unfolding(block_columns::specs::ColumnEncodings::columns))]
-pub fn put_ids<'a>(page: &mut Page<'a, Text>, rows: &'a [Row]) -> Result<(), Memory>
+pub fn put_ids<'a>(page: &mut Page<'a, Text>, rows: &'a [RowRef<'_>]) -> Result<(), Memory>
     ensures written { OnOk result (page.new ≡ wrote (columns id_columns) rows.now page.old) }
     ensures sound { OnOk result (AreIds rows.now) }
 {
@@ -101,13 +102,13 @@ pub fn put_ids<'a>(page: &mut Page<'a, Text>, rows: &'a [Row]) -> Result<(), Mem
 #[derive(Drop)]
 struct NumberColumn;
 
-impl Put<Text, Row> for NumberColumn {
+impl<'r> Put<Text, RowRef<'r>> for NumberColumn {
     ghost encoding = { λ _. number_cell };
 
     ghost promise = { λ _ row. IsBelow64 row.place.number };
 
-    fn put<'a>(&self, page: &mut Page<'a, Text>, value: &'a Row) -> Result<(), Memory> {
-        page.number(value.place.number)
+    fn put<'a>(&self, page: &mut Page<'a, Text>, value: &'a RowRef<'r>) -> Result<(), Memory> {
+        page.number(value.place().number)
     }
 }
 
@@ -115,13 +116,13 @@ impl Put<Text, Row> for NumberColumn {
 #[derive(Drop)]
 struct PositionColumn;
 
-impl Put<Text, Row> for PositionColumn {
+impl<'r> Put<Text, RowRef<'r>> for PositionColumn {
     ghost encoding = { λ _. position_cell };
 
     ghost promise = { λ _ row. row.place.position < 4294967296 };
 
-    fn put<'a>(&self, page: &mut Page<'a, Text>, value: &'a Row) -> Result<(), Memory> {
-        page.number(u64::from(value.place.position))
+    fn put<'a>(&self, page: &mut Page<'a, Text>, value: &'a RowRef<'r>) -> Result<(), Memory> {
+        page.number(u64::from(value.place().position))
     }
 }
 
@@ -129,13 +130,13 @@ impl Put<Text, Row> for PositionColumn {
 #[derive(Drop)]
 struct NameColumn;
 
-impl Put<Text, Row> for NameColumn {
+impl<'r> Put<Text, RowRef<'r>> for NameColumn {
     ghost encoding = { λ _. name_cell };
 
     ghost promise = { λ _ row. IsWord row.span.name };
 
-    fn put<'a>(&self, page: &mut Page<'a, Text>, value: &'a Row) -> Result<(), Memory> {
-        put_text(page, &value.span.name)
+    fn put<'a>(&self, page: &mut Page<'a, Text>, value: &'a RowRef<'r>) -> Result<(), Memory> {
+        put_text(page, &value.span().name)
     }
 }
 
@@ -143,19 +144,19 @@ impl Put<Text, Row> for NameColumn {
 #[derive(Drop)]
 struct KindColumn;
 
-impl Put<Text, Row> for KindColumn {
+impl<'r> Put<Text, RowRef<'r>> for KindColumn {
     ghost encoding = { λ _. kind_cell };
 
     ghost promise = { λ _ _. Unit {0} };
 
-    fn put<'a>(&self, page: &mut Page<'a, Text>, value: &'a Row) -> Result<(), Memory> {
-        page.raw(&[value.span.kind.number()])
+    fn put<'a>(&self, page: &mut Page<'a, Text>, value: &'a RowRef<'r>) -> Result<(), Memory> {
+        page.raw(&[value.span().kind.number()])
     }
 }
 
 /// Adds the columns of places, names and kinds.
 #[tactic(auto, unfolding(block_columns::specs::ColumnEncodings::columns))]
-pub fn put_names<'a>(page: &mut Page<'a, Text>, rows: &'a [Row]) -> Result<(), Memory>
+pub fn put_names<'a>(page: &mut Page<'a, Text>, rows: &'a [RowRef<'_>]) -> Result<(), Memory>
     ensures written { OnOk result (page.new ≡ wrote (columns name_columns) rows.now page.old) }
     ensures sound { OnOk result (AreNames rows.now) }
 {
@@ -169,13 +170,13 @@ pub fn put_names<'a>(page: &mut Page<'a, Text>, rows: &'a [Row]) -> Result<(), M
 #[derive(Drop)]
 struct StartColumn;
 
-impl Put<Text, Row> for StartColumn {
+impl<'r> Put<Text, RowRef<'r>> for StartColumn {
     ghost encoding = { λ _. start_cell };
 
     ghost promise = { λ _ row. IsBelow64 row.span.start };
 
-    fn put<'a>(&self, page: &mut Page<'a, Text>, value: &'a Row) -> Result<(), Memory> {
-        put_moment(page, value.span.start)
+    fn put<'a>(&self, page: &mut Page<'a, Text>, value: &'a RowRef<'r>) -> Result<(), Memory> {
+        put_moment(page, value.span().start)
     }
 }
 
@@ -183,13 +184,13 @@ impl Put<Text, Row> for StartColumn {
 #[derive(Drop)]
 struct EndColumn;
 
-impl Put<Text, Row> for EndColumn {
+impl<'r> Put<Text, RowRef<'r>> for EndColumn {
     ghost encoding = { λ _. end_cell };
 
     ghost promise = { λ _ row. IsBelow64 row.span.«end» };
 
-    fn put<'a>(&self, page: &mut Page<'a, Text>, value: &'a Row) -> Result<(), Memory> {
-        put_moment(page, value.span.end)
+    fn put<'a>(&self, page: &mut Page<'a, Text>, value: &'a RowRef<'r>) -> Result<(), Memory> {
+        put_moment(page, value.span().end)
     }
 }
 
@@ -197,13 +198,13 @@ impl Put<Text, Row> for EndColumn {
 #[derive(Drop)]
 struct StatusColumn;
 
-impl Put<Text, Row> for StatusColumn {
+impl<'r> Put<Text, RowRef<'r>> for StatusColumn {
     ghost encoding = { λ _. status_cell };
 
     ghost promise = { λ _ _. Unit {0} };
 
-    fn put<'a>(&self, page: &mut Page<'a, Text>, value: &'a Row) -> Result<(), Memory> {
-        page.raw(&[value.span.status.number()])
+    fn put<'a>(&self, page: &mut Page<'a, Text>, value: &'a RowRef<'r>) -> Result<(), Memory> {
+        page.raw(&[value.span().status.number()])
     }
 }
 
@@ -211,19 +212,19 @@ impl Put<Text, Row> for StatusColumn {
 #[derive(Drop)]
 struct MessageColumn;
 
-impl Put<Text, Row> for MessageColumn {
+impl<'r> Put<Text, RowRef<'r>> for MessageColumn {
     ghost encoding = { λ _. message_cell };
 
     ghost promise = { λ _ row. IsWord row.span.message };
 
-    fn put<'a>(&self, page: &mut Page<'a, Text>, value: &'a Row) -> Result<(), Memory> {
-        put_text(page, &value.span.message)
+    fn put<'a>(&self, page: &mut Page<'a, Text>, value: &'a RowRef<'r>) -> Result<(), Memory> {
+        put_text(page, &value.span().message)
     }
 }
 
 /// Adds the columns of times and of how spans ended.
 #[tactic(auto, unfolding(block_columns::specs::ColumnEncodings::columns))]
-pub fn put_times<'a>(page: &mut Page<'a, Text>, rows: &'a [Row]) -> Result<(), Memory>
+pub fn put_times<'a>(page: &mut Page<'a, Text>, rows: &'a [RowRef<'_>]) -> Result<(), Memory>
     ensures written { OnOk result (page.new ≡ wrote (columns time_columns) rows.now page.old) }
     ensures sound { OnOk result (AreTimes rows.now) }
 {
@@ -237,13 +238,13 @@ pub fn put_times<'a>(page: &mut Page<'a, Text>, rows: &'a [Row]) -> Result<(), M
 #[derive(Drop)]
 pub struct AttrColumn;
 
-impl Put<Text, Row> for AttrColumn {
+impl<'r> Put<Text, RowRef<'r>> for AttrColumn {
     ghost encoding = { λ _. attrs_cell };
 
     ghost promise = { λ _ row. AreKeptAttrs row.span.attrs };
 
-    fn put<'a>(&self, page: &mut Page<'a, Text>, value: &'a Row) -> Result<(), Memory> {
-        put_attrs(page, &value.span.attrs)
+    fn put<'a>(&self, page: &mut Page<'a, Text>, value: &'a RowRef<'r>) -> Result<(), Memory> {
+        put_attrs(page, &value.span().attrs)
     }
 }
 
@@ -254,15 +255,15 @@ pub struct EventColumn {
     pub extended: bool,
 }
 
-impl Put<Text, Row> for EventColumn {
+impl<'r> Put<Text, RowRef<'r>> for EventColumn {
     ghost encoding = { λ c. events_cell c.extended };
 
     ghost promise = { λ c row. IsWritten c.extended IsKeptEvent row.span.events };
 
     #[tactic(auto, unfolding(block_columns::specs::ColumnEncodings::only_if))]
-    fn put<'a>(&self, page: &mut Page<'a, Text>, value: &'a Row) -> Result<(), Memory> {
+    fn put<'a>(&self, page: &mut Page<'a, Text>, value: &'a RowRef<'r>) -> Result<(), Memory> {
         if self.extended {
-            return put_counted(page, &PutEvent, value.span.events.as_slice());
+            return put_counted(page, &PutEvent, value.span().events.as_slice());
         }
         Ok(())
     }
@@ -275,15 +276,15 @@ pub struct LinkColumn {
     pub extended: bool,
 }
 
-impl Put<Text, Row> for LinkColumn {
+impl<'r> Put<Text, RowRef<'r>> for LinkColumn {
     ghost encoding = { λ c. links_cell c.extended };
 
     ghost promise = { λ c row. IsWritten c.extended IsKeptLink row.span.links };
 
     #[tactic(auto, unfolding(block_columns::specs::ColumnEncodings::only_if))]
-    fn put<'a>(&self, page: &mut Page<'a, Text>, value: &'a Row) -> Result<(), Memory> {
+    fn put<'a>(&self, page: &mut Page<'a, Text>, value: &'a RowRef<'r>) -> Result<(), Memory> {
         if self.extended {
-            return put_counted(page, &PutLink, value.span.links.as_slice());
+            return put_counted(page, &PutLink, value.span().links.as_slice());
         }
         Ok(())
     }
@@ -293,13 +294,13 @@ impl Put<Text, Row> for LinkColumn {
 #[derive(Drop)]
 pub struct ResourceColumn;
 
-impl Put<Resource, Row> for ResourceColumn {
+impl<'r> Put<Resource, RowRef<'r>> for ResourceColumn {
     ghost encoding = { λ _ row. reference same_resource row.span.resource };
 
     ghost promise = { λ _ _. Unit {0} };
 
-    fn put<'a>(&self, page: &mut Page<'a, Resource>, value: &'a Row) -> Result<(), Memory> {
-        page.reference(value.span.resource.get())
+    fn put<'a>(&self, page: &mut Page<'a, Resource>, value: &'a RowRef<'r>) -> Result<(), Memory> {
+        page.reference(value.span().resource.get())
     }
 }
 
@@ -307,12 +308,12 @@ impl Put<Resource, Row> for ResourceColumn {
 #[derive(Drop)]
 pub struct ScopeColumn;
 
-impl Put<Scope, Row> for ScopeColumn {
+impl<'r> Put<Scope, RowRef<'r>> for ScopeColumn {
     ghost encoding = { λ _ row. reference same_scope row.span.scope };
 
     ghost promise = { λ _ _. Unit {0} };
 
-    fn put<'a>(&self, page: &mut Page<'a, Scope>, value: &'a Row) -> Result<(), Memory> {
-        page.reference(value.span.scope.get())
+    fn put<'a>(&self, page: &mut Page<'a, Scope>, value: &'a RowRef<'r>) -> Result<(), Memory> {
+        page.reference(value.span().scope.get())
     }
 }

@@ -18,6 +18,7 @@ use crate::rows::ascend;
 use block_columns::{Page, Put, put_column, put_table};
 use block_parts::{PutResource, PutScope, PutText};
 use indexmap::IndexSet;
+use row_refs::{RowRef, refs_of};
 use span_types::{Bytes, Memory, Resource, Row, Rows, Scope, Text};
 use std::alloc::Global;
 use std::hash::Hash;
@@ -32,7 +33,16 @@ pub fn write_stripe(alloc: Global, rows: &Rows, form: u8) -> Result<Bytes, Memor
     requires { can_be_stripe (is_extended form) rows.now ≡ true }
     ensures { IfOk result (λ bytes. StripeHolds form bytes rows.now) }
 {
-    let rows = rows.as_slice();
+    let refs = refs_of(alloc, rows.as_slice())?;
+    write_refs(alloc, refs.as_slice(), form)
+}
+
+/// The stripe of rows whose spans are borrowed, as `write_stripe` gives it of the rows.
+pub fn write_refs(alloc: Global, rows: &[RowRef<'_>], form: u8) -> Result<Bytes, Memory>
+    requires { can_be_stripe (is_extended form) rows.now ≡ true }
+    ensures { IfOk result (λ bytes. StripeHolds form bytes rows.now) }
+{
+    let rows = lent(rows);
     let resources = numbered(alloc, &ResourceColumn, rows)?;
     let scopes = numbered(alloc, &ScopeColumn, rows)?;
     let mut page = Page::new(alloc);
@@ -40,6 +50,13 @@ pub fn write_stripe(alloc: Global, rows: &Rows, form: u8) -> Result<Bytes, Memor
     let (body, texts) = page.finish();
     let body = body.finish();
     whole(alloc, &texts, body.as_slice())
+}
+
+/// The same rows, lent for a while.
+fn lent<'s, 'r>(rows: &'s [RowRef<'r>]) -> &'s [RowRef<'r>]
+    ensures { result.now ≡ rows.now }
+{
+    rows
 }
 
 /// Whether rows can be written as one stripe in this form.
@@ -87,10 +104,10 @@ impl<'b, T: Eq + Hash> Model for OwnColumn<'b, T> {
 }
 
 /// The column of the resources or the scopes of rows.
-fn numbered<'b, T: Eq + Hash, P: Put<T, Row>>(
+fn numbered<'b, 'r, T: Eq + Hash, P: Put<T, RowRef<'r>>>(
     alloc: Global,
     kind: &P,
-    rows: &'b [Row],
+    rows: &'b [RowRef<'r>],
 ) -> Result<OwnColumn<'b, T>, Memory>
     ensures { IfOk result (λ made. made ≡ column (P.encoding kind.now) rows.now []) }
 {
@@ -105,7 +122,7 @@ fn numbered<'b, T: Eq + Hash, P: Put<T, Row>>(
 #[tactic(auto, unfolding(crate::specs::StripeEncodings::owned_rows, crate::specs::StripeEncodings::scoped_rows, crate::specs::StripeEncodings::counted_rows))]
 fn put_rows<'a, 'b>(
     page: &mut Page<'a, Text>,
-    rows: &'a [Row],
+    rows: &'a [RowRef<'_>],
     resources: &'a OwnColumn<'b, Resource>,
     scopes: &'a OwnColumn<'b, Scope>,
     extended: bool,
@@ -124,7 +141,7 @@ fn put_rows<'a, 'b>(
 /// Adds all columns.
 fn put_columns<'a, 'b>(
     page: &mut Page<'a, Text>,
-    rows: &'a [Row],
+    rows: &'a [RowRef<'_>],
     resources: &'a OwnColumn<'b, Resource>,
     scopes: &'a OwnColumn<'b, Scope>,
     extended: bool,
@@ -144,7 +161,7 @@ fn put_columns<'a, 'b>(
 #[tactic(auto, unfolding(block_columns::specs::ColumnEncodings::columns))]
 fn put_owned<'a, 'b>(
     page: &mut Page<'a, Text>,
-    rows: &'a [Row],
+    rows: &'a [RowRef<'_>],
     resources: &'a OwnColumn<'b, Resource>,
     scopes: &'a OwnColumn<'b, Scope>,
     extended: bool,

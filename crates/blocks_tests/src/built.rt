@@ -164,6 +164,81 @@ fn rows_in_another_order_and_twice(rt: HostRuntime) {
     }
 }
 
+/// A row: whether it is of the other trace, its span's number, its start and its position.
+type Given = (bool, u32, u64, u32);
+
+fn given_row(alloc: Global, given: &Given) -> Result<Row, Memory> {
+    let (other, span, start, position) = *given;
+    let trace = if other { OTHER } else { TRACE };
+    let mut row = row_of(alloc, trace, span)?;
+    row.span.start = start;
+    row.place.position = position;
+    Ok(row)
+}
+
+fn block_of_given(rt: &(impl Abort + AllocGlobal), given: &[Given]) -> BuiltBlock {
+    let mut rows = Vec::new(rt.alloc());
+    for one in given {
+        rows.push(given_row(rt.alloc(), one).expect(rt, "memory"))
+            .expect(rt, "memory");
+    }
+    built(rt, rows)
+}
+
+/// Rows with repeats, and which of them stay.
+static REPEATS: [(&[Given], &[Given]); 5] = [
+    // in one trace the row that came in first, whatever its start
+    (
+        &[
+            (false, 1, 30, 5),
+            (false, 2, 35, 1),
+            (false, 1, 40, 2),
+            (false, 1, 20, 9),
+        ],
+        &[(false, 2, 35, 1), (false, 1, 40, 2)],
+    ),
+    // of one place the row nearest the beginning
+    (
+        &[(false, 1, 50, 4), (false, 1, 40, 4)],
+        &[(false, 1, 50, 4)],
+    ),
+    // a span's id in two traces is two spans
+    (
+        &[(true, 1, 10, 0), (false, 1, 50, 1)],
+        &[(false, 1, 50, 1), (true, 1, 10, 0)],
+    ),
+    // in all traces, before and behind
+    (
+        &[
+            (true, 1, 10, 3),
+            (false, 1, 10, 2),
+            (false, 1, 11, 0),
+            (true, 1, 12, 4),
+        ],
+        &[(false, 1, 11, 0), (true, 1, 10, 3)],
+    ),
+    // neighbours in the order of ids aren't in that of starts
+    (
+        &[
+            (false, 3, 10, 0),
+            (false, 2, 20, 1),
+            (false, 1, 30, 2),
+            (false, 2, 5, 3),
+        ],
+        &[(false, 3, 10, 0), (false, 2, 20, 1), (false, 1, 30, 2)],
+    ),
+];
+
+#[test]
+fn repeats_in_one_trace_and_in_all(rt: HostRuntime) {
+    for (given, kept) in &REPEATS {
+        let built = block_of_given(&rt, given);
+        let wanted = block_of_given(&rt, kept);
+        assert!(&rt; built.info.rows as usize == kept.len());
+        assert!(&rt; built.bytes.as_slice() == wanted.bytes.as_slice());
+    }
+}
+
 /// Whether this is known of the block of 1,048,576 rows, of which the first one starts at 0 and each other a
 /// nanosecond after the one before it: a header of 33 pages; 4,096 stripes of 256 rows on four pages each, since a row
 /// has 49 bytes and one to three for its position, and what comes before them has 18; and a page of the index and one

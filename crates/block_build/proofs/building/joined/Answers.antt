@@ -1,4 +1,4 @@
-use Rattle.std.proofs.Common.{◌≡◌, ◌++◌, ℕ, List, drop, length, ap, ◌∙◌}
+use Rattle.std.proofs.Common.{◌++◌, ℕ, List, drop, length, ap, ◌∙◌}
 use Rattle.block_build.proofs.Whole.{four_parts}
 use Rattle.block_build.proofs.building.joined.Goals as goal
 

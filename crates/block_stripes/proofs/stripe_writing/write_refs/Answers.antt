@@ -6,19 +6,19 @@ use Rattle.block_stripes.specs.StripeEncodings.{owned_rows}
 use Rattle.block_stripes.specs.Stripes.{StripeHolds, can_be_stripe, is_extended}
 use Rattle.block_stripes.proofs.KeptRows.{holds_written, if_ok_three}
 use Rattle.block_stripes.proofs.StripeSteps.{numbered_of}
-use Rattle.block_stripes.proofs.stripe_writing.write_stripe.Goals as goal
+use Rattle.block_stripes.proofs.stripe_writing.write_refs.Goals as goal
 
 pub put_rows-requires-clause-of_resources : goal.put_rows-requires-clause-of_resources
-put_rows-requires-clause-of_resources c = c.in_ok-resources.ensures ∙ numbered_of same_resource (λ (r : Row). r.span.resource) c.as_slice-rows.result.now
+put_rows-requires-clause-of_resources c = c.in_ok-resources.ensures ∙ numbered_of same_resource (λ (r : Row). r.span.resource) c.lent-rows.result.now
 
 pub put_rows-requires-clause-of_scopes : goal.put_rows-requires-clause-of_scopes
-put_rows-requires-clause-of_scopes c = c.in_ok-scopes.ensures ∙ numbered_of same_scope (λ (r : Row). r.span.scope) c.as_slice-rows.result.now
+put_rows-requires-clause-of_scopes c = c.in_ok-scopes.ensures ∙ numbered_of same_scope (λ (r : Row). r.span.scope) c.lent-rows.result.now
 
 pub returns : goal.returns
 returns c =
     let form = c.args.form in
-    let rows = c.as_slice-rows.result.now in
-    let is : rows ≡ c.args.rows.now = c.as_slice-rows.ensures in
+    let rows = c.lent-rows.result.now in
+    let is : rows ≡ c.args.rows.now = c.lent-rows.ensures in
     let texts : List (List ℕ) = map (λ (k : Bor (List ℕ)). k.now) c.finish-body.result.1.keys in
     let can : can_be_stripe (is_extended form) rows ≡ true = subst (λ (l : List Row). can_be_stripe (is_extended form) l ≡ true) (sym is) c.requires in
     let page : c.put_rows.new.page ≡ wrote (owned_rows (is_extended form)) rows ([], []) = c.in_ok-put_rows.ensures.written ∙ ap (λ (e : Encoded (List ℕ)). wrote (owned_rows (is_extended form)) rows e) c.new-page.ensures in
