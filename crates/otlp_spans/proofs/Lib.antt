@@ -8,5 +8,7 @@ pub mod ReadsBackAttributes
 pub mod ReadsBackSpans
 pub mod ReadsBackTrace
 pub mod ReadsBackFits
+pub mod KeyLemmas
+pub mod AloneLemmas
 pub mod FormLaws
 pub mod ReadableLaws

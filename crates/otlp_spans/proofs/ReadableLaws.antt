@@ -1,13 +1,10 @@
 -- What every span of a line has, and how many there are.
-use Rattle.std.proofs.Common.{◌≡◌, ℕ, ◌+◌, ◌≤◌, ◌||◌, Bool, true, false, cond, List, [], ◌∷◌, ◌++◌, All, length, Option, Some, None, Result, Ok, Err, refl, sym, ap, ◌∙◌, subst, arith}
+use Rattle.std.proofs.Common.{◌≡◌, ℕ, ◌+◌, ◌≤◌, Bool, true, false, cond, List, [], ◌∷◌, ◌++◌, All, length, Option, Some, None, Result, Ok, Err, refl, sym, ap, ◌∙◌, subst, arith}
 use Rattle.std.specs.Prelude.{IfOk, IfSome}
 use Rattle.std.specs.List.{cons_option, filter_map, flat_map}
-use Rattle.std.specs.Str.{bytes_eq}
 use Rattle.std.proofs.lemmas.List.{length-append}
 use Rattle.std.proofs.lemmas.List.Elements.{All-append, All-cons, All-nil}
-use Rattle.std.proofs.lemmas.List.Folds.{list_any-append}
 use Rattle.std.proofs.lemmas.Option.{same_Some}
-use Rattle.std.proofs.lemmas.Slice.Eq.{bytes_eq-Decides}
 use Rattle.serde_json.specs.Data.{Data}
 use Rattle.serde_json.specs.Find.{as_str}
 use Rattle.span_types.specs.declared.attrs.Attr.{Attr}
@@ -28,6 +25,7 @@ use Rattle.otlp_spans.specs.Reading.{IsReadable, IsReadableLink, attrs_from, eve
 use Rattle.otlp_spans.specs.Walk.{Adds}
 use Rattle.otlp_spans.specs.declared.ids.SpanIds.{SpanIds}
 use Rattle.otlp_spans.specs.declared.read.Reading.{Reading}
+use Rattle.otlp_spans.proofs.KeyLemmas.{HasSameKeys, new_key, no_new_key}
 use Rattle.otlp_spans.specs.declared.paths.Member.TheVariants as m
 
 -- ---- steps and lists
@@ -77,32 +75,6 @@ unfolding spans_of objects_of
 spans_few d = flat_map-short _ _ resource_few (list_in m.ResourceSpans d)
 
 -- ---- keys
-
--- the same keys
-abbrev HasSameKeys : List Attr → List Attr → Type 0
-HasSameKeys before kept = (key : List ℕ) → has_key key before ≡ has_key key kept
-
-or-true : (b c : Bool) → (c ≡ true → b ≡ true) → (b || c) ≡ b
-or-true true c h = refl
-or-true false true h = sym (h refl)
-or-true false false h = refl
-
-or-false : (b : Bool) → (b || false) ≡ b
-or-false true = refl
-or-false false = refl
-
-one_key : (key : List ℕ) (a : Attr) (attrs : List Attr) → has_key key (attrs ++ a ∷ []) ≡ (has_key key attrs || bytes_eq a.key key)
-one_key key a attrs = list_any-append (λ x. bytes_eq x.key key) attrs (a ∷ []) ∙ ap (λ c. has_key key attrs || c) (or-false (bytes_eq a.key key))
-
--- a key that was there already
-no_new_key : (a : Attr) (before kept : List Attr) → has_key a.key before ≡ true → HasSameKeys before kept → HasSameKeys (before ++ a ∷ []) kept
-no_new_key a before kept there same key =
-    one_key key a before
-    ∙ or-true (has_key key before) (bytes_eq a.key key) (λ is. subst (λ k. has_key k before ≡ true) ((bytes_eq-Decides a.key key).0 is) there)
-    ∙ same key
-
-new_key : (a : Attr) (before kept : List Attr) → HasSameKeys before kept → HasSameKeys (before ++ a ∷ []) (kept ++ a ∷ [])
-new_key a before kept same key = one_key key a before ∙ ap (λ b. b || bytes_eq a.key key) (same key) ∙ sym (one_key key a kept)
 
 by_key : (a : Attr) (before kept later : List Attr) (b : Bool) → has_key a.key before ≡ b → HasSameKeys before kept
     → ((k : List Attr) → HasSameKeys (before ++ a ∷ []) k → AreDistinctAfter k (firsts_behind (before ++ a ∷ []) later))

@@ -1,14 +1,15 @@
 //! Reading lists of attributes.
 
-ghost use Rattle.std.specs.Prelude.{◌≡◌, ◌++◌, ◌∷◌, [], not, IfOk, OnOk, List, None};
+ghost use Rattle.std.specs.Prelude.{◌≡◌, ◌++◌, ◌∷◌, [], not, IfOk, IfSome, OnOk, List, None};
 ghost use Rattle.std.specs.List.{filter};
 ghost use Rattle.std.specs.Option.{is_some};
+ghost use Rattle.serde_json.specs.Data.{member, no_members, object};
 ghost use Rattle.serde_json.specs.View.{view};
 ghost use Rattle.span_types.specs.declared.attrs.Attr.{Attr};
 ghost use Rattle.span_types.specs.Promises.{has_key};
-ghost use Rattle.otlp_spans.specs.Attributes.{attr_of, attrs_in, firsts_behind, nothing, only, skipped_attrs, value_by, value_in};
+ghost use Rattle.otlp_spans.specs.Attributes.{attr_of, attrs_in, firsts_behind, nothing, only, skipped_attrs, value_by, value_in, value_of};
 ghost use Rattle.otlp_spans.specs.Forms.{attribute_form, attributes_form, first_in_field, found};
-ghost use Rattle.otlp_spans.specs.Keys.{HasKeysOf};
+ghost use Rattle.otlp_spans.specs.Keys.{HasKeysOf, are_first, value_named};
 ghost use Rattle.otlp_spans.specs.Walk.{Adds, StopsAt};
 ghost use Rattle.otlp_spans.specs.declared.paths.Member.TheVariants as m;
 
@@ -20,7 +21,7 @@ use crate::paths::Member;
 use serde_json::Value;
 use span_types::{Attr, AttrValue, Attrs, Memory};
 use std::alloc::Global;
-use std::collections::HashSet;
+use std::collections::BTreeSet;
 
 /// The members of which an attribute's value has exactly one.
 const VALUE_MEMBERS: [Member; 7] = [
@@ -65,19 +66,53 @@ fn one_of(value: &Value, members: &[Member]) -> Option<Member>
     one
 }
 
-/// An attribute's value, where it is kept.
-#[tactic(auto, unfolding(crate::specs::Attributes::value_of))]
-fn value_in(alloc: Global, item: &Value) -> Result<Option<AttrValue>, Memory>
-    ensures { IfOk result (λ v. v ≡ value_in (view item.now)) }
+/// The member of an object that has no other.
+fn alone(value: &Value) -> Option<(&str, &Value)>
+    ensures { IfSome result (λ m. view value.now ≡ object (member m.0.now (view m.1.now) no_members)) }
 {
-    let Some(value) = found(item, Member::Value) else {
-        return Ok(None);
-    };
+    let object = value.as_object()?;
+    if object.len() != 1 {
+        return None;
+    }
+    let (name, value) = object.first_key_value()?;
+    Some((name.as_str(), value))
+}
+
+/// What a value is by its one member, which has this name.
+fn value_named(alloc: Global, name: &str, value: &Value) -> Result<Option<AttrValue>, Memory>
+    ensures { IfOk result (λ v. v ≡ value_named name.now (view value.now)) }
+{
+    match name {
+        "stringValue" => value_by(alloc, Member::StringValue, value),
+        "boolValue" => value_by(alloc, Member::BoolValue, value),
+        "intValue" => value_by(alloc, Member::IntValue, value),
+        _ => Ok(None),
+    }
+}
+
+/// What a value is, where it is kept. Mostly it has one member; else each name is looked for.
+#[tactic(auto, unfolding(crate::specs::Attributes::value_of))]
+fn value_of(alloc: Global, value: &Value) -> Result<Option<AttrValue>, Memory>
+    ensures { IfOk result (λ v. v ≡ value_of (view value.now)) }
+{
+    if let Some((name, only)) = alone(value) {
+        return value_named(alloc, name, only);
+    }
     let Some(member) = one_of(value, &VALUE_MEMBERS) else {
         return Ok(None);
     };
     match found(value, member) {
         Some(found) => value_by(alloc, member, found),
+        None => Ok(None),
+    }
+}
+
+/// An attribute's value, where it is kept.
+fn value_in(alloc: Global, item: &Value) -> Result<Option<AttrValue>, Memory>
+    ensures { IfOk result (λ v. v ≡ value_in (view item.now)) }
+{
+    match found(item, Member::Value) {
+        Some(value) => value_of(alloc, value),
         None => Ok(None),
     }
 }
@@ -109,30 +144,79 @@ impl ListItem for Attr {
     }
 }
 
+/// Up to this number of attributes each is compared with those before it.
+const FEW: usize = 16;
+
+/// Whether one of the attributes has the key.
+fn has_key(attrs: &[Attr], key: &str) -> bool
+    ensures { result ≡ has_key key.now attrs.now }
+{
+    attrs.iter().any(|attr| attr.key.as_str() == key)
+}
+
+/// Of each key the first attribute, where there are few.
+fn few_firsts(attrs: Vec<Attr>) -> Vec<Attr>
+    ensures { result.items ≡ firsts_behind [] attrs.items }
+{
+    let mut firsts = attrs;
+    let mut kept = 0;
+    while kept < firsts.len() {
+        if has_key(&firsts[..kept], firsts[kept].key.as_str()) {
+            firsts.remove(kept);
+            continue;
+        }
+        kept += 1;
+    }
+    firsts
+}
+
 /// Whether no attribute before has the key. Then it is one of their keys.
-fn is_new(alloc: Global, keys: &mut HashSet<String>, key: &str) -> Result<bool, Memory>
+fn is_new<'a>(keys: &mut BTreeSet<&'a str>, key: &'a str) -> Result<bool, Memory>
     ensures new_key { IfOk result (λ new. (before : List Attr) → HasKeysOf keys.old before → new ≡ not (has_key key.now before)) }
     ensures kept { OnOk result ((before : List Attr) (attr : Attr) → HasKeysOf keys.old before → attr.key ≡ key.now → HasKeysOf keys.new (before ++ attr ∷ [])) }
 {
-    let key = key.to_owned(alloc)?;
     match keys.insert(key) {
         Ok(new) => Ok(new),
         Err(_) => Err(Memory),
     }
 }
 
-/// Of each key the first attribute.
-fn firsts(alloc: Global, attrs: Vec<Attr>) -> Result<Vec<Attr>, Memory>
+/// Of each attribute whether it is the first of its key. The keys are kept in order, since they may be chosen so that a
+/// hash tells none of them from another.
+fn are_first(alloc: Global, attrs: &[Attr]) -> Result<Vec<bool>, Memory>
+    ensures { IfOk result (λ marks. marks.items ≡ are_first [] attrs.now) }
+{
+    let mut keys = BTreeSet::new(alloc);
+    let mut marks = Vec::with_capacity(alloc, attrs.len())?;
+    for attr in attrs {
+        marks.push(is_new(&mut keys, attr.key.as_str())?)?;
+    }
+    Ok(marks)
+}
+
+/// Of each key the first attribute, however many there are.
+fn many_firsts(alloc: Global, attrs: Vec<Attr>) -> Result<Vec<Attr>, Memory>
     ensures { IfOk result (λ v. v.items ≡ firsts_behind [] attrs.items) }
 {
-    let mut keys = HashSet::new(alloc);
-    let mut kept = Vec::with_capacity(alloc, attrs.len())?;
+    let mut marks = are_first(alloc, attrs.as_slice())?.into_iter();
+    let mut kept = Vec::new(alloc);
     for attr in attrs {
-        if is_new(alloc, &mut keys, attr.key.as_str())? {
+        if marks.next() == Some(true) {
             kept.push(attr)?;
         }
     }
     Ok(kept)
+}
+
+/// Of each key the first attribute.
+fn firsts(alloc: Global, attrs: Vec<Attr>) -> Result<Vec<Attr>, Memory>
+    ensures { IfOk result (λ v. v.items ≡ firsts_behind [] attrs.items) }
+{
+    if attrs.len() <= FEW {
+        Ok(few_firsts(attrs))
+    } else {
+        many_firsts(alloc, attrs)
+    }
 }
 
 /// The attributes of an object, and how many of them were skipped, at most 2^64 - 1.

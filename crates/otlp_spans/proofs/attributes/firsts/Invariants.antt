@@ -1,8 +1,0 @@
-use Rattle.std.proofs.Common.{◌≡◌, ◌++◌, []}
-use Rattle.otlp_spans.specs.Attributes.{firsts_behind}
-use Rattle.otlp_spans.specs.Keys.{HasKeysOf}
-use Rattle.otlp_spans.proofs.attributes.firsts.Given as goal
-
--- what was kept, and what stays of the rest
-abbrev pub invariant-loop-attr : goal.invariant-loop-attr
-invariant-loop-attr l = (firsts_behind [] l.fn.attrs.items ≡ l.kept.items ++ firsts_behind l.yielded l.attr-iterator.rest.items) × HasKeysOf l.keys l.yielded
