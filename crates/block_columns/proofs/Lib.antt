@@ -9,3 +9,4 @@ pub mod ReadingSteps
 pub mod WritingSteps
 pub mod Seams
 pub mod Tabled
+pub mod Guesses

@@ -1,6 +1,7 @@
 //! What is written of columns: bytes, and the values that they refer to.
 
-ghost use Rattle.std.specs.Prelude.{◌≡◌, ◌++◌, [], ℕ, All, List, OnOk, IfOk, length, map};
+ghost use Rattle.std.specs.Prelude.{◌≡◌, ◌++◌, [], ℕ, All, List, OnOk, IfOk, length, map, true};
+ghost use Rattle.indexmap.specs.IndexSet.{contains, insert_index, insert_key};
 ghost use Rattle.byte_fields.specs.Spelling.{fixed64_bytes, text_bytes, var_bytes, zigzag_bytes};
 ghost use Rattle.span_fields.specs.Sound.{AreSound};
 ghost use Rattle.block_columns.specs.ColumnEncodings.{Encoding, column, counted, plain, reference, wrote};
@@ -12,11 +13,77 @@ use std::alloc::Global;
 use std::hash::Hash;
 use std::marker::Model;
 
+/// Guesses of the next number that is referred to: a number is mostly followed by the one that followed it before.
+#[derive(Drop)]
+struct Guesses {
+    after: Vec<usize>,
+    last: usize,
+}
+
+impl Guesses {
+    fn none(alloc: Global) -> Guesses {
+        Guesses {
+            after: Vec::new(alloc),
+            last: 0,
+        }
+    }
+
+    /// The guess. Nothing rests on it.
+    fn next(&self) -> usize {
+        match self.after.get(self.last) {
+            Some(number) => *number,
+            None => 0,
+        }
+    }
+
+    /// This number came where the other was guessed. A new one takes its place: what followed that is guessed to follow it.
+    fn came(&mut self, guess: usize, number: usize) -> Result<(), Memory> {
+        if let Some(after) = self.after.get_mut(self.last) {
+            *after = number;
+        }
+        if number == self.after.len() {
+            let next = *self.after.get(guess).unwrap_or(&number);
+            self.after.push(next)?;
+        }
+        self.last = number;
+        Ok(())
+    }
+}
+
+/// Whether the value has this number.
+fn is_at<'a, T: Eq + Hash>(values: &IndexSet<&'a T>, number: usize, value: &'a T) -> bool
+    ensures number { result ≡ true → insert_index (λ a b. T.eq a.now b.now) values.now value.entry ≡ number }
+    ensures there { result ≡ true → contains (λ a b. T.eq a.now b.now) values.now value.entry ≡ true }
+{
+    let _ = values.len();
+    let Some(there) = values.get_index(number) else {
+        return false;
+    };
+    *value == **there
+}
+
+/// The value's number, or the one that it gets as the last value. It is looked up where the guess is wrong.
+fn number_of<'a, T: Eq + Hash>(
+    values: &mut IndexSet<&'a T>,
+    guess: usize,
+    value: &'a T,
+) -> Result<usize, Memory>
+    ensures number { IfOk result (λ n. n ≡ insert_index (λ a b. T.eq a.now b.now) values.old value.entry) }
+    ensures keys { OnOk result (values.new.keys ≡ insert_key (λ a b. T.eq a.now b.now) values.old.keys value.entry) }
+{
+    if is_at(values, guess, value) {
+        return Ok(guess);
+    }
+    let (number, _) = values.insert_full(value)?;
+    Ok(number)
+}
+
 /// Bytes, and the values that they refer to in order of first use. The values are borrowed and not copied.
 #[derive(Drop)]
 pub struct Page<'a, T: Eq + Hash> {
     out: Writer,
     values: IndexSet<&'a T>,
+    guesses: Guesses,
 }
 
 impl<'a, T: Eq + Hash> Model for Page<'a, T> {
@@ -36,6 +103,7 @@ impl<'a, T: Eq + Hash> Page<'a, T> {
         Page {
             out: Writer::new(alloc),
             values: IndexSet::new(alloc),
+            guesses: Guesses::none(alloc),
         }
     }
 
@@ -85,7 +153,9 @@ impl<'a, T: Eq + Hash> Page<'a, T> {
     pub fn reference(&mut self, value: &'a T) -> Result<(), Memory>
         ensures { OnOk result (self.new ≡ wrote (reference T.eq) value.now self.old) }
     {
-        let (number, _) = self.values.insert_full(value)?;
+        let guess = self.guesses.next();
+        let number = number_of(&mut self.values, guess, value)?;
+        self.guesses.came(guess, number)?;
         self.out.var(number as u64)
     }
 }

@@ -5,3 +5,4 @@ pub mod Meant
 pub mod Distinct
 pub mod Results
 pub mod Promised
+pub mod KeyLemmas

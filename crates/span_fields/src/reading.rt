@@ -1,6 +1,6 @@
 //! Reading the parts of a span, field by field.
 
-ghost use Rattle.std.specs.Prelude.{◌≡◌, ◌++◌, ◌∷◌, ℕ, List, [], false, Ok, IfOk, IfSome, OnOk, IfErr, length, not};
+ghost use Rattle.std.specs.Prelude.{◌≡◌, ◌≤◌, ◌++◌, ◌∷◌, ℕ, List, [], false, Ok, IfOk, IfSome, OnOk, IfErr, length, not};
 ghost use Rattle.byte_fields.specs.Reading.{Stand};
 ghost use Rattle.span_types.specs.declared.attrs.Attr.{Attr};
 ghost use Rattle.span_fields.specs.declared.breaks.Break.TheVariants as broken;
@@ -13,7 +13,10 @@ use crate::breaks::{self, Break};
 use byte_fields::Reader;
 use span_types::{Attr, AttrValue, Attrs, SpanId, SpanKind, StatusCode, Text, TraceId};
 use std::alloc::Global;
-use std::collections::HashSet;
+use std::collections::BTreeSet;
+
+/// So many attributes at most are compared key by key.
+const FEW: u64 = 16;
 
 #[tactic(auto, unfolding(crate::specs::Decodings::truth_at))]
 fn truth(reader: &mut Reader, within: bool) -> Result<bool, Break>
@@ -74,13 +77,64 @@ fn keyed(reader: &mut Reader, within: bool, key: Text) -> Result<Attr, Break>
     Ok(Attr { key, value })
 }
 
+/// Whether one of the attributes has the key.
+fn has_key(key: &str, attrs: &[Attr]) -> bool
+    ensures { result ≡ has_key key.now attrs.now }
+{
+    attrs.iter().any(|attr| attr.key.as_str() == key)
+}
+
+/// An attribute after these ones, none of which has its key.
+#[tactic(auto, unfolding(crate::specs::Decodings::attr_at))]
+fn next_attr(reader: &mut Reader, within: bool, before: &[Attr]) -> Result<Attr, Break>
+    ensures { Gives (λ x. x) result reader.new (attr_at within before.now reader.old) }
+{
+    let at = reader.at();
+    let key = breaks::text(reader, within)?;
+    if has_key(key.as_str(), before) {
+        return Err(Break::At(at));
+    }
+    keyed(reader, within, key)
+}
+
+/// So many attributes, the key of each compared with those before it.
+fn few_attrs(
+    alloc: Global,
+    reader: &mut Reader,
+    within: bool,
+    count: u64,
+) -> Result<Vec<Attr>, Break>
+    requires { count ≤ 16 }
+    ensures { Gives (λ x. x.items) result reader.new (items_at (attr_at within) count [] reader.old) }
+{
+    let mut attrs = Vec::with_capacity(alloc, count as usize)?;
+    for _ in 0..count {
+        let attr = next_attr(reader, within, attrs.as_slice())?;
+        attrs.push(attr)?;
+    }
+    Ok(attrs)
+}
+
+/// Whether no attribute before has the key. Then it is one of their keys.
+fn is_new(alloc: Global, keys: &mut BTreeSet<String>, key: &str) -> Result<bool, Break>
+    ensures new_key { IfOk result (λ new. (before : List Attr) → HasKeysOf keys.old before → new ≡ not (has_key key.now before)) }
+    ensures kept { OnOk result ((before : List Attr) (attr : Attr) → HasKeysOf keys.old before → attr.key ≡ key.now → HasKeysOf keys.new (before ++ attr ∷ [])) }
+    ensures memory { IfErr result (λ why. why ≡ broken.Memory) }
+{
+    let key = key.to_owned(alloc)?;
+    match keys.insert(key) {
+        Ok(new) => Ok(new),
+        Err(_) => Err(Break::Memory),
+    }
+}
+
 /// An attribute after those that have these keys, none of which has its key.
 #[tactic(auto, unfolding(crate::specs::Decodings::attr_at))]
 fn attr(
     alloc: Global,
     reader: &mut Reader,
     within: bool,
-    keys: &mut HashSet<String>,
+    keys: &mut BTreeSet<String>,
 ) -> Result<Attr, Break>
     ensures gives { (before : List Attr) → HasKeysOf keys.old before → Gives (λ x. x) result reader.new (attr_at within before reader.old) }
     ensures kept { IfOk result (λ attr. (before : List Attr) → HasKeysOf keys.old before → HasKeysOf keys.new (before ++ attr ∷ [])) }
@@ -93,20 +147,8 @@ fn attr(
     Err(Break::At(at))
 }
 
-/// Whether no attribute before has the key. Then it is one of their keys.
-fn is_new(alloc: Global, keys: &mut HashSet<String>, key: &str) -> Result<bool, Break>
-    ensures new_key { IfOk result (λ new. (before : List Attr) → HasKeysOf keys.old before → new ≡ not (has_key key.now before)) }
-    ensures kept { OnOk result ((before : List Attr) (attr : Attr) → HasKeysOf keys.old before → attr.key ≡ key.now → HasKeysOf keys.new (before ++ attr ∷ [])) }
-    ensures memory { IfErr result (λ why. why ≡ broken.Memory) }
-{
-    let key = key.to_owned(alloc)?;
-    match keys.insert(key) {
-        Ok(new) => Ok(new),
-        Err(_) => Err(Break::Memory),
-    }
-}
-
-fn each_attr(
+/// So many attributes, the key of each looked up in order among those before it.
+fn many_attrs(
     alloc: Global,
     reader: &mut Reader,
     within: bool,
@@ -115,12 +157,27 @@ fn each_attr(
     ensures { Gives (λ x. x.items) result reader.new (items_at (attr_at within) count [] reader.old) }
 {
     let mut attrs = Vec::new(alloc);
-    let mut keys = HashSet::new(alloc);
+    let mut keys = BTreeSet::new(alloc);
     for _ in 0..count {
         let attr = attr(alloc, reader, within, &mut keys)?;
         attrs.push(attr)?;
     }
     Ok(attrs)
+}
+
+/// So many attributes. Room is taken at once for a few alone.
+fn each_attr(
+    alloc: Global,
+    reader: &mut Reader,
+    within: bool,
+    count: u64,
+) -> Result<Vec<Attr>, Break>
+    ensures { Gives (λ x. x.items) result reader.new (items_at (attr_at within) count [] reader.old) }
+{
+    if count <= FEW {
+        return few_attrs(alloc, reader, within, count);
+    }
+    many_attrs(alloc, reader, within, count)
 }
 
 /// A list of attributes, no two of which have one key.

@@ -1,7 +1,7 @@
 use Rattle.std.proofs.lemmas.Result.{err_from_is_err_and}
 use Rattle.span_fields.specs.Decodings.{attr_at}
 use Rattle.span_fields.proofs.ReadingLoops.{items_go_on, items_fail, items_done}
-use Rattle.span_fields.proofs.reading.each_attr.Goals as goal
+use Rattle.span_fields.proofs.reading.many_attrs.Goals as goal
 
 pub returns-in_err-attr : goal.returns-in_err-attr
 returns-in_err-attr c =
