@@ -1,3 +1,4 @@
 pub mod PartLaws
 pub mod PartSteps
 pub mod Promised
+pub mod KeyLemmas

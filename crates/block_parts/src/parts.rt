@@ -1,6 +1,6 @@
 //! Reading a span's parts whose texts are references into a table.
 
-ghost use Rattle.std.specs.Prelude.{◌≡◌, ◌++◌, ◌∷◌, List, [], IfOk, OnOk, not};
+ghost use Rattle.std.specs.Prelude.{◌≡◌, ◌≤◌, ◌++◌, ◌∷◌, List, [], IfOk, OnOk, not};
 ghost use Rattle.span_types.specs.declared.attrs.Attr.{Attr};
 ghost use Rattle.span_types.specs.Promises.{has_key};
 ghost use Rattle.block_columns.specs.ColumnReadings.{items_at, reference_at};
@@ -14,7 +14,10 @@ use span_types::{
     Attr, AttrValue, Attrs, Memory, Resource, Scope, SpanEvent, SpanLink, Text, TryCopy,
 };
 use std::alloc::Global;
-use std::collections::HashSet;
+use std::collections::BTreeSet;
+
+/// So many attributes at most are compared key by key.
+const FEW: u64 = 16;
 
 /// A text of the table.
 fn text(fields: &mut Fields, texts: &[Text]) -> Result<Text, Break>
@@ -37,12 +40,52 @@ fn value(fields: &mut Fields, texts: &[Text]) -> Result<AttrValue, Break>
     fields.value()
 }
 
+/// Whether one of the attributes has the key.
+fn has_key(key: &Text, attrs: &[Attr]) -> bool
+    ensures { result ≡ has_key key.now attrs.now }
+{
+    attrs.iter().any(|attr| attr.key.as_str() == key.as_str())
+}
+
+/// An attribute after these ones, none of which has its key.
+#[tactic(auto, unfolding(crate::specs::PartReadings::attr_with, block_columns::specs::ColumnReadings::made_at, block_columns::specs::ColumnReadings::pair_at, block_columns::specs::ColumnReadings::unless_at))]
+fn next_attr(fields: &mut Fields, texts: &[Text], before: &[Attr]) -> Result<Attr, Break>
+    ensures { Finds (λ x. x) result fields.new (attr_with texts.now before.now fields.old) }
+{
+    let at = fields.at();
+    let key = fields.reference(texts)?;
+    if has_key(key, before) {
+        return Err(Break::At(at));
+    }
+    let value = value(fields, texts)?;
+    let key = key.copy()?;
+    Ok(Attr { key, value })
+}
+
+/// So many attributes, the key of each compared with those before it.
+fn few_attrs(
+    alloc: Global,
+    fields: &mut Fields,
+    texts: &[Text],
+    count: u64,
+) -> Result<Vec<Attr>, Break>
+    requires { count ≤ 16 }
+    ensures { Finds (λ x. x.items) result fields.new (items_at (attr_with texts.now) count [] fields.old) }
+{
+    let mut attrs = Vec::with_capacity(alloc, count as usize)?;
+    for _ in 0..count {
+        let attr = next_attr(fields, texts, attrs.as_slice())?;
+        attrs.push(attr)?;
+    }
+    Ok(attrs)
+}
+
 /// Whether no attribute before has the key. Then it is one of their keys.
-fn is_new<'t>(keys: &mut HashSet<&'t Text>, key: &'t Text) -> Result<bool, Memory>
+fn is_new<'t>(keys: &mut BTreeSet<&'t str>, key: &'t Text) -> Result<bool, Memory>
     ensures new_key { IfOk result (λ new. (before : List Attr) → HasKeysOf keys.old before → new ≡ not (has_key key.now before)) }
     ensures kept { OnOk result ((before : List Attr) (attr : Attr) → HasKeysOf keys.old before → attr.key ≡ key.now → HasKeysOf keys.new (before ++ attr ∷ [])) }
 {
-    match keys.insert(key) {
+    match keys.insert(key.as_str()) {
         Ok(new) => Ok(new),
         Err(_) => Err(Memory),
     }
@@ -53,7 +96,7 @@ fn is_new<'t>(keys: &mut HashSet<&'t Text>, key: &'t Text) -> Result<bool, Memor
 fn attr<'t>(
     fields: &mut Fields,
     texts: &'t [Text],
-    keys: &mut HashSet<&'t Text>,
+    keys: &mut BTreeSet<&'t str>,
 ) -> Result<Attr, Break>
     ensures gives { (before : List Attr) → HasKeysOf keys.old before → Finds (λ x. x) result fields.new (attr_with texts.now before fields.old) }
     ensures kept { IfOk result (λ attr. (before : List Attr) → HasKeysOf keys.old before → HasKeysOf keys.new (before ++ attr ∷ [])) }
@@ -68,7 +111,8 @@ fn attr<'t>(
     Ok(Attr { key, value })
 }
 
-fn each_attr(
+/// So many attributes, the key of each looked up in order among those before it.
+fn many_attrs(
     alloc: Global,
     fields: &mut Fields,
     texts: &[Text],
@@ -77,12 +121,27 @@ fn each_attr(
     ensures { Finds (λ x. x.items) result fields.new (items_at (attr_with texts.now) count [] fields.old) }
 {
     let mut attrs = Vec::new(alloc);
-    let mut keys = HashSet::new(alloc);
+    let mut keys = BTreeSet::new(alloc);
     for _ in 0..count {
         let attr = attr(fields, texts, &mut keys)?;
         attrs.push(attr)?;
     }
     Ok(attrs)
+}
+
+/// So many attributes. Room is taken at once for a few alone.
+fn each_attr(
+    alloc: Global,
+    fields: &mut Fields,
+    texts: &[Text],
+    count: u64,
+) -> Result<Vec<Attr>, Break>
+    ensures { Finds (λ x. x.items) result fields.new (items_at (attr_with texts.now) count [] fields.old) }
+{
+    if count <= FEW {
+        return few_attrs(alloc, fields, texts, count);
+    }
+    many_attrs(alloc, fields, texts, count)
 }
 
 /// A list of attributes, no two of which have one key.

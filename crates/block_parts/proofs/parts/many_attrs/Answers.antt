@@ -1,7 +1,7 @@
 use Rattle.std.proofs.lemmas.Result.{err_from_is_err_and}
 use Rattle.block_parts.specs.PartReadings.{attr_with}
 use Rattle.block_columns.proofs.ReadingSteps.{items_go_on, items_fail, items_done}
-use Rattle.block_parts.proofs.parts.each_attr.Goals as goal
+use Rattle.block_parts.proofs.parts.many_attrs.Goals as goal
 
 pub returns-in_err-attr : goal.returns-in_err-attr
 returns-in_err-attr c =
