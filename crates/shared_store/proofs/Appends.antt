@@ -311,6 +311,7 @@ module _ {C : Type 0} (m : Meaning C) (key : C) (s : State (Option C) (Known C))
     mine = own_after v.seen.names k.entries entry refl small
         ∙ ap (λ (es : List Entry). es ++ entry ∷ []) (ap (own v.seen.names) fits.begins ∙ own_append v.seen.names v.seen.entries fits.rest ∙ ap (λ (es : List Entry). own v.seen.names v.seen.entries ++ es) fits.others ∙ append-nil (own v.seen.names v.seen.entries));
     holds = refl;
+    strangers = now_fits.strangers;
     kept = refl;
     made = made';
     knows = λ from known.
@@ -367,6 +368,7 @@ appended_shown m key before core event reply v w u shown is a = subst (λ (x : K
   names = a.names;
   mine = a.mine;
   holds = a.holds;
+  strangers = a.strangers;
   kept = a.kept;
   made = a.made;
   knows = a.knows;
@@ -390,6 +392,7 @@ from_shown m key before core event reply v u w shown is a =
       names = b.names;
       mine = b.mine;
       holds = b.holds;
+      strangers = b.strangers;
       kept = b.kept;
       made = b.made;
       knows = b.knows;

@@ -267,6 +267,7 @@ module _ {C : Type 0} (m : Meaning C) (key : C) (e : Event) (r : Reply) (before 
       called = called;
       made = app.made;
       are_open = still_open;
+      strangers = app.strangers;
       kept = app.kept;
     };
     learns = learnt;

@@ -366,6 +366,7 @@ module _ {C : Type 0} (m : Meaning C) (key : C) where
       refl,
       λ known one other start is. subst (λ (c : C). AreJoined (m.tells c) one other me.0.seen) (sym ((k.each id me.0 at).start known start))
           ((k.each id me.0 at).joined one other is),
+      (k.each id me.0 at).strangers,
     ),
   )
 

@@ -185,6 +185,7 @@ module _ {C : Type 0} (m : Meaning C) (key : C) where
         held = open_from [] k.entries;
         holds = held;
         are_open = λ hold c. (open_from [] k.entries, held, f.are_open hold c);
+        strangers = f.strangers;
         telling = tells_chain m key k.core k.entries k.made;
         kept = f.kept;
         entries = k.entries;

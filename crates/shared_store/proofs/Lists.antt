@@ -2,7 +2,7 @@
 use Rattle.std.proofs.Common.{◌≡◌, ℕ, ◌+◌, ◌<◌, zero, suc, List, [], ◌∷◌, ◌++◌, Bool, true, false, not, refl, sym, ◌∙◌, ap, subst, arith, length, filter, slice_index_or, if◌then◌else◌, ⊎_elim, set}
 use Rattle.std.specs.Prelude.{◌||◌}
 use Rattle.std.specs.List.{Contains}
-use Rattle.std.proofs.lemmas.List.Elements.{Contains-append_cases}
+use Rattle.std.proofs.lemmas.List.Elements.{Contains-append_cases, Contains-append_right}
 use mathlib.Core.Option.{some, some-injective, some-ne-none}
 use lib.ListN.{get_elem?}
 use Rattle.store_model.specs.Event.{Event, Reply}
@@ -146,6 +146,15 @@ strangers_append (x ∷ a) b h k cross = (
   (λ other c. ⊎_elim (λ (l : Contains a other). h.0 other l) (λ (r : Contains b other). cross x other (0, omega arith, refl) r) (Contains-append_cases a b other c)),
   strangers_append a b h.1 k (λ y z c d. cross y z (suc c.0, omega (arith, c.1), c.2) d),
 )
+
+-- what is in a first part is apart from what is in a second
+pub strangers_parts : (a b : List Hold) → AllStrangers (a ++ b) → (x y : Hold) → Contains a x → Contains b y → AreStrangers x y
+strangers_parts [] b h x y c d = absurd (omega (arith, c.1))
+strangers_parts (z ∷ a) b h x y c d = at c.0 c.1 c.2 (λ g. strangers_parts a b h.1 x y g d)
+  where
+    at : (k : ℕ) → k < length (z ∷ a) → slice_index_or (z ∷ a) k x ≡ x → (Contains a x → AreStrangers x y) → AreStrangers x y
+    at zero l e ih = subst (λ (t : Hold). AreStrangers t y) e (h.0 y (Contains-append_right a b y d))
+    at (suc k) l e ih = ih (k, omega (arith, l), e)
 
 -- ---- views
 

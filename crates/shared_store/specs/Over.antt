@@ -17,16 +17,17 @@ LegalFrom g is_with key entries core =
     → (m' : Machine) × is_with core m' × (m'.history ≡ history_from m.history entries)
     × Legal (g.faults key.disk) m entries (g.faults core.disk) m'
 
--- All calls of a store, from its core as it was first shared to the core that they left: they are legal from each machine that the
--- core stood for, and from each that its memory showed, whatever bytes its disk tells. Their counts of faults never fall, and stand
--- between those of the two.
+-- Calls of a store that lead from its core as it was first shared to this one: they are legal from each machine that the first core
+-- stood for, and from each that its memory showed, whatever bytes its disk tells. Their counts of faults never fall, and stand between
+-- those of the two.
 pub record AreCallsOf {D : Type 0} (g : Ghosts D) (key : Core D) (entries : List Entry) (core : Core D) : Type 0 where
   pub stands : LegalFrom g (CoreStandsFor g) key entries core
   pub shown : LegalFrom g (CoreShows g) key entries core
   pub counts : CountsRise (g.faults key.disk) entries (g.faults core.disk)
 
--- After a call on a seat there is the one history of all calls of the store up to it. It begins with all that the seat had seen and
--- ends with this call and this reply, and of this seat's calls it holds those that it had made, and this one.
+-- After a call on a seat there is one history of calls of the store up to it. It begins with all that the seat had seen and ends with
+-- this call and this reply, and of this seat's calls it holds those that it had made, and this one. That the histories of all seats are
+-- beginnings of one is in the rule of the table (`IsKept`), and of two seats in what `join` gives.
 pub record HasCalled {D : Type 0} (g : Ghosts D) (key : Core D) (v : Known (Core D)) (event : Event) (reply : Reply) (w : Known (Core D)) : Type 0 where
   pub core : Core D
   pub legal : AreCallsOf g key w.seen.entries core
@@ -37,8 +38,8 @@ pub record HasCalled {D : Type 0} (g : Ghosts D) (key : Core D) (v : Known (Core
   pub its_reply : entry.reply ≡ reply
   pub mine : calls_of w ≡ calls_of v ++ entry ∷ []
 
--- A core that was taken back, with a ticket that knew this: all calls of the store lead to it, and begin with what the ticket had
--- seen. With all parts it had seen all, and all are its own.
+-- A core that was taken back, with a ticket that knew this: calls of the store lead to it, which begin with what the ticket had seen.
+-- With all parts it had seen all of them, and all are its own.
 pub record IsTakenBack {D : Type 0} (g : Ghosts D) (key : Core D) (v : Known (Core D)) (core : Core D) : Type 0 where
   pub entries : List Entry
   pub legal : AreCallsOf g key entries core

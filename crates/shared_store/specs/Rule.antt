@@ -103,12 +103,13 @@ together v w = record {
 abbrev pub spent_view : {C : Type 0} → Known C
 spent_view = record { start = None; shown = None; parts = 0; seen = nothing_seen }
 
--- A look at the turn's word tells what the rule knows of two seats that were made one.
+-- A look at the turn's word tells what the rule knows of two seats that were made one: of each, and that what it holds is apart.
 abbrev pub recalled : {C : Type 0} → Meaning C → Step (Option C) → Me (Option C) (Known C) → ℕ → Me (Option C) (Known C) → Type 0
 recalled {C} m step me n after =
     (after ≡ me)
     × ((key : C) (one other : Half) → me.0.start ≡ Some key → me.0.seen.joined ≡ Some (one, other)
     → AreJoined (m.tells key) one other me.0.seen)
+    × AllStrangers me.0.seen.holds
 
 -- ---- the turn
 
@@ -120,9 +121,11 @@ pub record IsFound {C : Type 0} (m : Meaning C) (key : C) (v : Known C) (core : 
   pub held : List Hold
   pub holds : m.holds core held
   pub are_open : (hold : Hold) → Contains v.seen.holds hold → IsOpen m core hold
+  pub strangers : AllStrangers v.seen.holds
   pub telling : m.tells core ≡ m.tells key
   pub kept : IsTrue (m.tells key) → v.seen.kept ≡ kept_of (m.shows core) v.seen.holds
-  -- all calls so far: none behind those that it has seen is its own, and with all parts it has seen all, and all are its own
+  -- calls lead to it, which begin with those that it has seen: none of the later ones is its own, and with all parts it has seen all,
+  -- and all are its own
   pub entries : List Entry
   pub made : AreEntries m key entries core
   pub later : List Entry
@@ -180,6 +183,7 @@ pub record IsAppended {C : Type 0} (m : Meaning C) (key : C) (event : Event) (re
   pub names : w.seen.names ≡ names_after (length (v.seen.entries ++ between)) v.seen.names
   pub mine : own w.seen.names w.seen.entries ≡ own v.seen.names v.seen.entries ++ entry ∷ []
   pub holds : w.seen.holds ≡ holds_after event reply v.seen.holds
+  pub strangers : AllStrangers w.seen.holds
   pub kept : w.seen.kept ≡ kept_of (m.shows core) w.seen.holds
   pub made : AreEntries m key w.seen.entries core
   pub knows : (from : View) → m.knows key from → IsKnown m from event reply core (v.seen.entries ++ between) w.seen.entries

@@ -10,7 +10,7 @@ use Rattle.store_model.specs.State.{is_among}
 use Rattle.store_state.specs.Calls.{reclaim_calls}
 use Rattle.store_state.specs.Meaning.{View, Meaning, Called, IsOpen, reads_of}
 use Rattle.port_history.specs.Entries.{Entry, own, history_from, AreEntries}
-use Rattle.shared_store.specs.Apart.{AllLeave}
+use Rattle.shared_store.specs.Apart.{AllLeave, AllStrangers}
 use Rattle.shared_store.specs.Seen.{SameBytes, bytes_in, kept_of, name_at, names_after, some_fails}
 use Rattle.shared_store.specs.declared.known.Known.{Known}
 
@@ -97,10 +97,11 @@ pub record IsBoth {C : Type 0} (v w both : Known C) : Type 0 where
   pub of_second : own w.seen.names (calls_of both) ≡ calls_of w
   pub no_more : length (calls_of both) ≡ length (calls_of v) + length (calls_of w)
 
--- There is one order of all calls, up to this one: it begins with what the seat had seen, in between there is none of the seat's own,
--- and it ends with this call and this reply. They are calls of the port as it was when it was first shared, and what the seat holds is
--- open in the port that they left, whose bytes it shows. Those in between ended nothing that the seat held and wrote no file of it: the
--- call found it open, with the bytes that the seat showed.
+-- There is one order of calls up to this one: it begins with what the seat had seen, in between there is none of the seat's own, and
+-- it ends with this call and this reply. They are calls of the port as it was when it was first shared. What the seat holds is open in
+-- the port that they left, each look and job apart from the others, and the seat shows the bytes that this port shows. Those in between
+-- ended nothing that the seat held and wrote no file of it: the call found it open, with the bytes that the seat showed if the port
+-- shows its bytes.
 pub record SeatDid {C : Type 0} (m : Meaning C) (v : Stand C) (event : Event) (reply : Reply) (w : Stand C) : Type 0 where
   pub same_table : w.table ≡ v.table
   pub key : C
@@ -125,6 +126,7 @@ pub record SeatDid {C : Type 0} (m : Meaning C) (v : Stand C) (event : Event) (r
   pub called : Called m before event reply core
   pub made : AreEntries m key w.known.seen.entries core
   pub are_open : (hold : Hold) → Contains w.known.seen.holds hold → IsOpen m core hold
+  pub strangers : AllStrangers w.known.seen.holds
   pub kept : w.known.seen.kept ≡ kept_of (m.shows core) w.known.seen.holds
 
 abbrev pub seat_meaning : {C : Type 0} → Meaning C → Meaning (Stand C)

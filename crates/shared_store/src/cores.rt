@@ -47,17 +47,18 @@ pub fn entries_of_a_core_are_legal<D: Device>(old: &Core<D>, new: &Core<D>)
         × Legal (D.faults old.now.disk) m entries (D.faults new.now.disk) m' }
 {}
 
-/// After each call on a seat of a core's store there is the one legal history of all calls of the store up to it. It begins with what
-/// the seat had seen and ends with this call.
+/// After each call on a seat of a core's store there is one legal history of calls of the store up to it. It begins with what the
+/// seat had seen and ends with this call.
 pub fn a_call_of_a_seat_is_legal<D: Device>(key: &Core<D>)
     ensures { (v w : Stand (core D)) (event : Event) (reply : Reply) → Called (seat_meaning (port_of D.Device.own)) v event reply w
         → v.known.start ≡ Some key.now → HasCalled D.Device.own key.now v.known event reply w.known }
 {}
 
-/// What `close` gives, where the port is a core: all calls of the store lead to it, and begin with what the ticket had seen.
-pub fn a_core_is_taken_back<D: Device>(key: &Core<D>, port: &Core<D>)
-    ensures { (v : Known (core D)) → IsFound (port_of D.Device.own) key.now v port.now
-        → IsTakenBack D.Device.own key.now v port.now }
+/// What `close` gives, where the port is a core: one legal history of calls of the store leads to it, and begins with what the ticket
+/// had seen.
+pub fn a_core_is_taken_back<D: Device>(key: &Core<D>)
+    ensures { (v : Known (core D)) (port : core D) → IsFound (port_of D.Device.own) key.now v port
+        → IsTakenBack D.Device.own key.now v port }
 {}
 
 /// A core may go to another thread where its disk may.

@@ -24,7 +24,7 @@ pub use cores::{
     a_core_is_unshared, entries_of_a_core_are_legal,
 };
 pub use crosses::{a_shared_core_crosses, a_shared_port_is_shared, a_ticket_crosses};
-pub use held::{a_call_leaves_what_others_hold, others_leave_what_is_held};
+pub use held::{a_call_leaves_what_others_hold, others_leave_what_is_held, parts_are_apart};
 pub use known::{Known, Past, Turns};
 pub use made::{a_joined_seat_has_what_both_had, a_seat_has_just_its_calls};
 pub use seat::PortSeat;

@@ -1,5 +1,6 @@
 //! A seat at a shared port.
 ghost use Rattle.std.specs.Prelude.{◌≡◌, ◌≤◌, IfOk, IsOk};
+ghost use Rattle.shared_store.specs.Apart.{AllStrangers};
 ghost use Rattle.shared_store.specs.Idle.{IsOf};
 ghost use Rattle.shared_store.specs.Rule.{one_less, split_off, together};
 ghost use Rattle.shared_store.specs.Seats.{ShowsStill, stand_of};
@@ -83,6 +84,7 @@ impl<'a, Q: LookPort, R> PortSeat<'a, Q, R> {
         requires { other.table ≡ self.table }
         ensures both { result ≡ stand_of self.entry.table (together self.entry.known other.entry.known) }
         ensures apart { ShareNone self.entry.known.seen.names other.entry.known.seen.names }
+        ensures strangers { AllStrangers result.known.seen.holds }
         ensures first { GoesOn self.entry.known.seen.names self.entry.known.seen.entries result.known.seen.entries }
         ensures second { GoesOn other.entry.known.seen.names other.entry.known.seen.entries result.known.seen.entries }
         ensures shows_first { ShowsStill Q.meaning self.entry result }

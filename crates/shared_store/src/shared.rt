@@ -30,7 +30,7 @@ impl<Q: LookPort> Model for SharedPort<Q> {
 }
 
 impl<Q: LookPort> SharedPort<Q> {
-    /// Shares a port that nobody else uses and in which nothing is open. Out of memory it comes back.
+    /// Shares a port that nobody else uses and of which something is known (`untouched`). Out of memory it comes back.
     pub fn new(alloc: Global, port: Q) -> Result<(SharedPort<Q>, PortTicket<Q>), (Memory, Q)>
         requires unshared { IsUnshared Q.meaning }
         requires untouched { Q.meaning.holds port [] }
@@ -61,8 +61,8 @@ impl<Q: LookPort> SharedPort<Q> {
 }
 
 impl<Q: LookPort + Drop> SharedPort<Q> {
-    /// Waits for the turn and takes the port out, for good. What its ticket had seen begins all calls that were made; with all
-    /// parts it has seen all, and all are its own.
+    /// Waits for the turn and takes the port out, for good. One history of calls leads to it, which begins with what the ticket had
+    /// seen; with all parts it has seen all of them, and all are its own.
     pub fn close<R: Wait>(self, rt: &R, ticket: PortTicket<Q>) -> Q
         requires { IsOf self ticket }
         ensures { IsFound Q.meaning self.key ticket.known result }

@@ -1,6 +1,8 @@
-use Rattle.std.proofs.Common.{rules, ap, subst}
+use Rattle.std.proofs.Common.{rules, ap, subst, sym, ℕ, List, Option}
+use Rattle.shared_store.specs.Apart.{AllStrangers}
 use Rattle.shared_store.specs.Seats.{ShowsStill, Stand, stand_of}
 use Rattle.shared_store.specs.Seen.{GoesOn}
+use Rattle.shared_store.specs.declared.known.Known.{Known}
 use Rattle.shared_store.proofs.Joins.{apart_at, joins, recalls, tells_of_both}
 use Rattle.shared_store.proofs.seat.PortSeat.join.Goals as goal
 
@@ -23,6 +25,9 @@ returns-clause-apart g c =
     let told = tells_of_both g.Q.LookPort.meaning _ v w _ c.load.new.seat.me.0 (ap (λ me. me.0) c.join_seat.ensures.2) (ap (λ me. me.0) c.load.ensures.2.0)
     c.self.invariant.start c.load.ensures.2.1 in
     apart_at v w _ _ _ _ c.self.view_is c.other.view_is told.apart
+
+pub returns-clause-strangers : goal.returns-clause-strangers
+returns-clause-strangers g c = subst (λ (me : Known _ × List (ℕ × Option _)). AllStrangers me.0.seen.holds) (sym c.load.ensures.2.0) c.load.ensures.2.2
 
 pub returns-clause-first : goal.returns-clause-first
 returns-clause-first g c =
