@@ -2,7 +2,6 @@
 use Rattle.std.proofs.Common.{rules, ◌≡◌, ℕ, ◌+◌, ◌≤◌, ◌==◌, zero, suc, List, [], ◌∷◌, ◌++◌, true, false, refl, sym, ◌∙◌, ap, subst, arith, length, take, drop, if◌then◌else◌}
 use Rattle.std.specs.Prelude.{IsTrue, ◌||◌}
 use Rattle.span_types.specs.declared.spans.Row.{Row}
-use Rattle.span_types.specs.First.{IsFirstOf}
 use Rattle.block_info.specs.InfoParts.{InfoParts}
 use Rattle.block_format.specs.Blocks.{BlockHasInfo}
 use Rattle.block_build.proofs.Firsts.{can_be_block}

@@ -8,6 +8,7 @@ use crate::group::{OfTrace, group_of};
 use crate::index::Spot;
 use crate::order::order_of;
 use crate::runs::HasRows;
+use row_refs::RowRef;
 use span_types::{Batch, Memory, Place, Row, Span, TraceId, TryCopy};
 use std::alloc::Global;
 use std::marker::Model;
@@ -94,6 +95,14 @@ impl Chunk {
         &spans[at as usize]
     }
 
+    /// One of its rows. The span is borrowed.
+    pub fn lent(&self, at: u32) -> RowRef<'_>
+        requires { at < length self.now.spans }
+        ensures { result ≡ row_of self.now at }
+    {
+        RowRef::of(self.place(at), self.span(at))
+    }
+
     /// A copy of a span, as a row.
     pub fn copy_row(&self, at: u32) -> Result<Row, Memory>
         requires { at < length self.now.spans }
@@ -126,6 +135,14 @@ impl HasRows for Chunk {
         for at in 0..count {
             let row = self.copy_row(at)?;
             rows.push(row)?;
+        }
+        Ok(())
+    }
+
+    fn lend_rows<'a>(&'a self, rows: &mut Vec<RowRef<'a>>) -> Result<(), Memory> {
+        let count = self.len();
+        for at in 0..count {
+            rows.push(self.lent(at))?;
         }
         Ok(())
     }
@@ -213,6 +230,13 @@ impl SharedRow {
         self.chunk.span(self.at)
     }
 
+    /// The row. The span is borrowed.
+    pub fn lent(&self) -> RowRef<'_>
+        ensures { result ≡ self.now }
+    {
+        self.chunk.lent(self.at)
+    }
+
     /// A copy of its span, as a row.
     pub fn copy_row(&self) -> Result<Row, Memory>
         ensures { IfOk result (λ row. row ≡ self.now) }
@@ -236,6 +260,19 @@ pub(crate) fn copy_all(shared: &[SharedRow], rows: &mut Vec<Row>) -> Result<(), 
 {
     for row in shared {
         rows.push(row.copy_row()?)?;
+    }
+    Ok(())
+}
+
+// Adds rows to a list, which borrows their spans.
+pub(crate) fn lend_each<'a>(
+    shared: &'a [SharedRow],
+    rows: &mut Vec<RowRef<'a>>,
+) -> Result<(), Memory>
+    ensures { OnOk result (rows.new.items ≡ rows.old.items ++ shared.now) }
+{
+    for row in shared {
+        rows.push(row.lent())?;
     }
     Ok(())
 }

@@ -3,10 +3,11 @@
 ghost use Rattle.std.specs.Prelude.{◌≡◌, Some, IfOk};
 ghost use Rattle.live_traces.specs.ByTrace.{AreGroupsOf};
 
-use crate::chunk::{SharedRow, copy_all, copy_those_of, share_each};
+use crate::chunk::{SharedRow, copy_all, copy_those_of, lend_each, share_each};
 use crate::group::sort_by_trace;
 use crate::run::Run;
 use crate::runs::HasRows;
+use row_refs::RowRef;
 use span_types::{Memory, Row, Shared, TraceId, TryCopy};
 use std::alloc::Global;
 use std::marker::Model;
@@ -83,6 +84,10 @@ impl HasRows for Rest {
 
     fn copy_rows(&self, rows: &mut Vec<Row>) -> Result<(), Memory> {
         copy_all(self.as_slice(), rows)
+    }
+
+    fn lend_rows<'a>(&'a self, rows: &mut Vec<RowRef<'a>>) -> Result<(), Memory> {
+        lend_each(self.as_slice(), rows)
     }
 
     fn share_rows(&self, rows: &mut Vec<SharedRow>) -> Result<(), Memory> {

@@ -4,9 +4,10 @@ ghost use Rattle.std.specs.Prelude.{◌≡◌, ◌≤◌, ◌-◌, IfOk, length,
 ghost use Rattle.rows_by_trace.specs.Traces.{rows_of_trace};
 ghost use Rattle.live_traces.specs.ByTrace.{AreByTrace};
 
-use crate::chunk::{SharedRow, copy_all, share_each};
+use crate::chunk::{SharedRow, copy_all, lend_each, share_each};
 use crate::group::group_of;
 use crate::runs::HasRows;
+use row_refs::RowRef;
 use span_types::{Memory, Row, Rows, Shared, TraceId, TryCopy};
 use std::alloc::Global;
 use std::marker::Model;
@@ -95,6 +96,10 @@ impl HasRows for Run {
 
     fn copy_rows(&self, rows: &mut Vec<Row>) -> Result<(), Memory> {
         copy_all(self.as_slice(), rows)
+    }
+
+    fn lend_rows<'a>(&'a self, rows: &mut Vec<RowRef<'a>>) -> Result<(), Memory> {
+        lend_each(self.as_slice(), rows)
     }
 
     fn share_rows(&self, rows: &mut Vec<SharedRow>) -> Result<(), Memory> {

@@ -11,6 +11,7 @@ use crate::chunk::{Chunk, SharedRow};
 use crate::group::sort_by_trace;
 use crate::rest::Rest;
 use crate::run::Run;
+use row_refs::RowRef;
 use span_types::{Memory, Row, Rows, TraceId};
 use std::alloc::Global;
 use std::marker::Model;
@@ -21,6 +22,10 @@ pub(crate) trait HasRows {
 
     /// Adds copies of its rows to a list.
     fn copy_rows(&self, rows: &mut Vec<Row>) -> Result<(), Memory>
+        ensures { OnOk result (rows.new.items ≡ rows.old.items ++ listed self.now) };
+
+    /// Adds its rows to a list, which borrows their spans.
+    fn lend_rows<'a>(&'a self, rows: &mut Vec<RowRef<'a>>) -> Result<(), Memory>
         ensures { OnOk result (rows.new.items ≡ rows.old.items ++ listed self.now) };
 
     /// Adds its rows to a list, which shares them.
@@ -96,6 +101,17 @@ impl Runs {
         Ok(rows)
     }
 
+    /// All rows, in their order. Their spans are borrowed.
+    pub fn refs(&self, alloc: Global) -> Result<Vec<RowRef<'_>>, Memory>
+        ensures { IfOk result (λ rows. rows.items ≡ self.now) }
+    {
+        let mut rows = Vec::new(alloc);
+        lend_all(self.runs.as_slice(), &mut rows)?;
+        lend_all(self.rests.as_slice(), &mut rows)?;
+        lend_all(self.pushes.as_slice(), &mut rows)?;
+        Ok(rows)
+    }
+
     /// Copies of all rows, in their order.
     pub fn copy_rows(&self) -> Result<Rows, Memory>
         ensures { IfOk result (λ rows. rows ≡ self.now) }
@@ -114,6 +130,16 @@ fn add_all<T: HasRows>(parts: &[T], rows: &mut Vec<Row>) -> Result<(), Memory>
 {
     for part in parts {
         part.copy_rows(rows)?;
+    }
+    Ok(())
+}
+
+// Adds all rows, whose spans are borrowed.
+fn lend_all<'a, T: HasRows>(parts: &'a [T], rows: &mut Vec<RowRef<'a>>) -> Result<(), Memory>
+    ensures { OnOk result (rows.new.items ≡ rows.old.items ++ flat_map T.listed parts.now) }
+{
+    for part in parts {
+        part.lend_rows(rows)?;
     }
     Ok(())
 }
