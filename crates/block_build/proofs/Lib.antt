@@ -4,3 +4,5 @@ pub mod Moments
 pub mod Drafting
 pub mod Whole
 pub mod Distinct
+pub mod Building
+pub mod Placing

@@ -1,3 +1,5 @@
 pub mod Drafts
 pub mod Built
 pub mod KeyOrders
+pub mod Builders
+pub mod Places

@@ -83,7 +83,7 @@ later_less : (x y : Row) (rows : List Row) → block_order x y ≡ Less → AllB
 later_less x y [] less all = tt
 later_less x y (z ∷ rows) less all = (block_order_total.trans x y z less all.0, later_less x y rows less all.1)
 
-all_after : (x : Row) (rows : List Row) → ascend_after x rows ≡ true → AllByRecursion (λ z. block_order x z ≡ Less) rows
+pub all_after : (x : Row) (rows : List Row) → ascend_after x rows ≡ true → AllByRecursion (λ z. block_order x z ≡ Less) rows
 all_after x [] e = tt
 all_after x (y ∷ rows) e =
     let both = and_parts (is_lt (block_order x y)) (ascend_after y rows) e in

@@ -16,3 +16,4 @@ pub mod TraceWalk
 mod FilterLaws
 pub mod KeptRows
 mod SketchWalk
+mod WholeLaws

@@ -90,11 +90,11 @@ agreed entry part (Ok some) rows e =
     subst (Agreed entry (Ok some)) t.same (record { found = refl; holds = t.holds })
 agreed entry part (Err at) rows e = absurd (cc)
 
-record StripeMeans (form : ℕ) (entry : StripeInfo) (last : Option Row) (part : List ℕ) (rows : List Row) : Type 0 where
-  has : StripeHasEntry form entry part rows
-  behind : follow last rows ≡ true
+pub record StripeMeans (form : ℕ) (entry : StripeInfo) (last : Option Row) (part : List ℕ) (rows : List Row) : Type 0 where
+  pub has : StripeHasEntry form entry part rows
+  pub behind : follow last rows ≡ true
 
-stripe_means : (form : ℕ) (entry : StripeInfo) (last : Option Row) (part : List ℕ) (rows : List Row) → AreBytes part → stripe_of form entry last part ≡ Ok rows → StripeMeans form entry last part rows
+pub stripe_means : (form : ℕ) (entry : StripeInfo) (last : Option Row) (part : List ℕ) (rows : List Row) → AreBytes part → stripe_of form entry last part ≡ Ok rows → StripeMeans form entry last part rows
 unfolding stripe_of
 stripe_means form entry last part rows fit e =
     let extended = is_extended form in
@@ -128,7 +128,7 @@ stripe_means form entry last part rows fit e =
 
 -- ---- all stripes
 
-in_file_ok : {A : Type 0} (base : ℕ) (part : List ℕ) (r : Result A ℕ) (x : A) → in_file base part r ≡ Ok x → r ≡ Ok x
+pub in_file_ok : {A : Type 0} (base : ℕ) (part : List ℕ) (r : Result A ℕ) (x : A) → in_file base part r ≡ Ok x → r ≡ Ok x
 in_file_ok base part (Ok y) x e = e
 in_file_ok base part (Err at) x e = absurd (cc)
 
@@ -184,7 +184,7 @@ no_order : ascend [] ≡ true
 unfolding ascend
 no_order = refl
 
-same_rows : (xs ys : List Row) → (let r : Result (List Row) ℕ = Ok xs in let q : Result (List Row) ℕ = Ok ys in r ≡ q) → xs ≡ ys
+pub same_rows : (xs ys : List Row) → (let r : Result (List Row) ℕ = Ok xs in let q : Result (List Row) ℕ = Ok ys in r ≡ q) → xs ≡ ys
 same_rows xs ys e = cc
 
 one_more : (form page : ℕ) (entry : StripeInfo) (entries : List StripeInfo) (last : Option Row) (bytes : List ℕ) (some later : List Row) → entry.page ≡ page → StripeMeans form entry last (part_of entry.page entry.pages bytes) some

@@ -6,3 +6,4 @@ pub mod Checks
 pub mod PageReads
 pub mod Lookups
 pub mod Sketched
+pub mod Wholes

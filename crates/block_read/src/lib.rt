@@ -6,6 +6,7 @@
 //!   `sketches` makes none where it is sure without them.
 //! - Looking up a trace: `lookup` asks the filters and the index where it is, `parts` reads one stripe, or of its rows
 //!   those of some traces, by `kept` where all rows had to be made; `traces` walks over the stripes that hold a trace.
+//! - `whole` holds a block as its bytes, and reads its rows stripe by stripe as they are taken.
 //! - `laws` says that what a block stands for is read, and nothing else.
 //!
 //! `docs/BLOCK-FORMAT.md` has the bytes and where they are malformed; the definition of reading is in
@@ -28,6 +29,7 @@ mod parts;
 mod sketches;
 mod stripes;
 mod traces;
+mod whole;
 
 pub use block::{Block, block_of};
 pub use calls::{all_rows, check_block, check_bytes, trace_rows};
@@ -39,3 +41,4 @@ pub use memory::MemPages;
 pub use pages::Pages;
 pub use parts::{rows_of_bytes, stripe_bytes, traces_of_part};
 pub use traces::stripes_of;
+pub use whole::{ReadBlock, RowsLeft, checked};

@@ -5,3 +5,4 @@ mod BuildLaws
 pub mod WriteLaws
 mod RoundLaws
 mod TraceByTrace
+mod JoinLaws

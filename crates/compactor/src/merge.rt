@@ -31,7 +31,7 @@ pub fn merge_rows(alloc: Global, parts: RowLists) -> Result<Rows, Memory>
 }
 
 // The rows of all parts, one part after the other.
-pub(crate) fn joined(alloc: Global, parts: RowLists) -> Result<Rows, Memory>
+fn joined(alloc: Global, parts: RowLists) -> Result<Rows, Memory>
     ensures { IfOk result (λ rows. rows ≡ flat_map (λ rows. rows) parts) }
 {
     let mut rows = Vec::new(alloc);
@@ -116,7 +116,7 @@ fn settle(alloc: Global, group: &mut Vec<Row>, firsts: &mut Vec<Row>) -> Result<
 }
 
 // The first occurrences among the rows of one trace.
-fn firsts_of_trace(alloc: Global, rows: Rows) -> Result<Rows, Memory>
+pub(crate) fn firsts_of_trace(alloc: Global, rows: Rows) -> Result<Rows, Memory>
     ensures { IfOk result (λ firsts. IsFirstOf rows firsts) }
 {
     first_rows(alloc, rows)

@@ -13,17 +13,18 @@ ghost use Rattle.store_state.specs.declared.rounds.Refusal.TheVariants.{Memory};
 use crate::task::Phase;
 use block_format::a_block_has_rows;
 use block_info::BlockInfo;
-use block_read::{block_of, read_block_is_held};
+use block_read::{ReadBlock, checked, read_block_is_held};
 use span_fields::Break;
-use span_types::Rows;
+use span_types::Bytes;
 use std::alloc::Global;
+use std::mem;
 use store_state::{CompactJob, Refusal};
 
-// A job with the rows of each block that is read, and the pages of the next one that are read.
+// A job with each block that is read, and the pages of the next one that are read.
 #[derive(Drop)]
 pub(crate) struct Progress {
     pub(crate) job: CompactJob,
-    pub(crate) parts: Vec<Rows>,
+    pub(crate) parts: Vec<ReadBlock>,
     pub(crate) pages: u64,
     pub(crate) bytes: Vec<u8>,
 }
@@ -98,9 +99,11 @@ fn close(alloc: Global, reading: Progress) -> Phase
     requires whole { OfFirst (blocks_left reading.job reading.parts.items) (λ info. pages_of info ≤ reading.pages) }
     ensures { Turned reading.job reading.parts.items reading.pages reading.bytes.items (task_of result) }
 {
+    let mut reading = reading;
+    let bytes = mem::replace(&mut reading.bytes, Vec::new(alloc));
     let block = current(&reading);
     let file = file_of(block);
-    match block_rows(alloc, reading.bytes.as_slice(), block) {
+    match block_rows(alloc, bytes, block) {
         Ok(rows) => keep(alloc, reading, rows),
         Err(error) => fail(reading, unread_cause(file, error)),
     }
@@ -116,22 +119,17 @@ fn unread_cause(file: u32, error: Break) -> Refusal
     }
 }
 
-// The rows that these bytes are read to, as many as the block's information says.
-#[tactic(auto, unfolding(block_read::specs::BlockReadings::listed_at))]
-fn block_rows(alloc: Global, bytes: &[u8], info: &BlockInfo) -> Result<Rows, Break>
-    ensures answers { Answers (λ x. x) result (rows_at info.now bytes.now) }
+// The block of the rows that these bytes are read to, as many as the block's information says.
+fn block_rows(alloc: Global, bytes: Vec<u8>, info: &BlockInfo) -> Result<ReadBlock, Break>
+    ensures answers { Answers (λ x. x) result (rows_at info.now bytes.items) }
     ensures some { IfOk result (λ rows. 1 ≤ length rows) }
     ensures counted { IfOk result (λ rows. length rows ≡ info.now.rows) }
-    ensures holds { IfOk result (λ rows. BlockHolds bytes.now rows) }
+    ensures holds { IfOk result (λ rows. BlockHolds bytes.items rows) }
 {
-    let found = block_of(alloc, bytes)?;
+    each_fits(bytes.as_slice());
     read_block_is_held();
     a_block_has_rows();
-    each_fits(bytes);
-    if found.rows.len() != info.rows as usize {
-        return Err(Break::At(0));
-    }
-    Ok(found.rows)
+    checked(alloc, Bytes::of(bytes), info.rows)
 }
 
 // What bytes promise, for the proof of the caller: each is below 256. It does nothing.
@@ -142,7 +140,7 @@ fn each_fits(bytes: &[u8])
 }
 
 // Keeps the rows of a block, behind those of the blocks before it.
-fn keep(alloc: Global, reading: Progress, rows: Rows) -> Phase
+fn keep(alloc: Global, reading: Progress, rows: ReadBlock) -> Phase
     ensures { (task_of result ≡ Reading reading.job (reading.parts.items ++ rows ∷ []) 0 [])
         ⊎ (task_of result ≡ Failing reading.job Memory) }
 {
