@@ -4,5 +4,5 @@ pub mod Moments
 pub mod Drafting
 pub mod Whole
 pub mod Distinct
-pub mod Building
-pub mod Placing
+pub mod RowByRow
+pub mod PlaceLaws

@@ -67,11 +67,19 @@ pub fn close(
     }))
 }
 
-/// What the type of trace ids promises, for the proof of the caller. It does nothing.
+/// What the type of trace ids promises, for the proof of the caller. It changes nothing.
 fn each_is_long(ids: &[TraceId])
     ensures { All (λ id. length id.0 ≡ 16) ids.now }
 {
-    let _ = ids;
+    for id in ids {
+        is_long(*id);
+    }
+}
+
+fn is_long(id: TraceId)
+    ensures { length id.0 ≡ 16 }
+{
+    let _ = id;
 }
 
 /// The bytes of a header, and those of the body behind them. The body is moved and not copied.

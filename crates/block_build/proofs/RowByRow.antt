@@ -87,7 +87,7 @@ takes_row old new row more form stripes body ids wanted same rows took = λ sure
     }
 
 pub not_sure : (old new : Builder) → new.form ≡ old.form → new.rows.items ≡ [] → new.sure ≡ false → IsWritten old new
-not_sure old new form none unsure = record { form = form; none = none; takes = λ rows took sure. absurd (let bad : IsTrue false = subst IsTrue unsure sure in bad) }
+not_sure old new form none unsure = record { form = form; none = none; takes = λ rows took sure. absurd (let bad : IsTrue false = subst IsTrue unsure sure in cc) }
 
 -- the rows that waited are written
 pub written : (old new : Builder) (entry : StripeInfo) (stripe : List ℕ) → StripeHasEntry old.form entry stripe old.rows.items → new.form ≡ old.form → new.rows.items ≡ [] → new.stripes.items ≡ old.stripes.items ++ entry ∷ []
@@ -118,10 +118,14 @@ pub record AllWritten (b : Builder) (rows : List Row) : Type 0 where
 
 pub all_written : (b : Builder) (rows : List Row) → Takes b rows → b.rows.items ≡ [] → b.sure ≡ true → AllWritten b rows
 all_written b rows took none sure =
-    let h = took (subst IsTrue (sym sure) tt) in
+    let h = took sure in
     let same : h.written ≡ rows = sym (append-nil h.written) ∙ ap (λ (l : List Row). h.written ++ l) (sym none) ∙ sym h.rows_are in
     record {
       stripes = subst (HasStripes b.form b.stripes.items b.body.items) same h.stripes;
       ids = h.ids ∙ ap ids_of same;
       wanted = h.wanted ∙ ap form_of_rows same;
     }
+
+pub no_items : (rows : List Row) → length rows ≡ 0 → rows ≡ []
+no_items [] none = refl
+no_items (row ∷ rows) none = absurd (omega (arith, none))
