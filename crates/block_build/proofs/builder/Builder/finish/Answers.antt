@@ -1,4 +1,4 @@
-use Rattle.std.proofs.Common.{◌≡◌, ◌×◌, ℕ, List, [], arith, ap, subst, sym, refl, ◌∙◌}
+use Rattle.std.proofs.Common.{◌≡◌, ℕ, List, [], arith, ap, subst, sym, refl, ◌∙◌}
 use Rattle.span_types.specs.declared.spans.Row.{Row}
 use Rattle.block_build.specs.declared.builder.Builder.{Builder}
 use Rattle.block_build.specs.Builders.{Takes}
