@@ -1,3 +1,3 @@
 pub mod Crossing
-pub mod Runs
-pub mod Holds
+pub mod Looks
+pub mod Seats

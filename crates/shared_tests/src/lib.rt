@@ -1,14 +1,20 @@
 //! Tests of a store that seats share, on threads over a disk in memory. They run what the clauses of `shared_store` say nothing of: that the
-//! calls of two threads come to an end, and what they were answered.
+//! calls of threads come to an end, and what they were answered.
 #![tactic(auto)]
 
 #[cfg(test)]
-mod batches;
+mod calls;
 #[cfg(test)]
-mod failing;
+mod found;
 #[cfg(test)]
-mod flushing;
+mod history;
 #[cfg(test)]
-mod pushing;
+mod rounds;
 #[cfg(test)]
-mod upkeep;
+mod seats;
+#[cfg(test)]
+mod spans;
+#[cfg(test)]
+mod steps;
+#[cfg(test)]
+mod wakes;

@@ -1,0 +1,5 @@
+use Rattle.shared_tests.proofs.Crossing.{disk_crosses}
+use Rattle.shared_tests.proofs.wakes.asked.Goals as goal
+
+pub asked_in-requires-send-D : goal.asked_in-requires-send-D
+asked_in-requires-send-D g c κs within = disk_crosses
