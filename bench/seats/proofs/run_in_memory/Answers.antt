@@ -1,0 +1,5 @@
+use Rattle.seat_bench.proofs.Crossing.{disk_crosses}
+use Rattle.seat_bench.proofs.run_in_memory.Goals as goal
+
+pub run-requires-send-D : goal.run-requires-send-D
+run-requires-send-D g c κs within = disk_crosses
