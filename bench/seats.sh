@@ -19,7 +19,7 @@ echo "seat_bench: $deps" >> "$work/tree/crates.txt"
 cp "$here/../HANDLES" "$work/tree/HANDLES"
 cmp -s "$here/seats/program.txt" "$program/src/main.rt" || cp "$here/seats/program.txt" "$program/src/main.rt"
 cp -r "$here/seats/proofs/." "$program/proofs/"
-for name in Crossing Looks Seats; do # lemmas of the tests, under this program's name
+for name in Crossing Looks SeatHolds; do # lemmas of the tests, under this program's name
     sed 's/shared_tests/seat_bench/g' "$here/../crates/shared_tests/proofs/$name.antt" > "$program/proofs/$name.antt"
 done
 printf 'h\001\001\000\000\000' > "$work/given"

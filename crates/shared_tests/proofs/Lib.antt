@@ -1,3 +1,3 @@
 pub mod Crossing
 pub mod Looks
-pub mod Seats
+pub mod SeatHolds

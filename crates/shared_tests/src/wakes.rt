@@ -1,6 +1,6 @@
 //! Eight threads that wait for one turn again and again.
 
-ghost use Rattle.std.specs.Prelude.{◌≤◌, []};
+ghost use Rattle.std.specs.Prelude.{◌≡◌, ◌≤◌, ◌+◌, []};
 ghost use Rattle.shared_store.specs.Apart.{IsUnshared};
 ghost use Rattle.shared_store.specs.Idle.{IsOf};
 

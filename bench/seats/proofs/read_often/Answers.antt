@@ -1,4 +1,4 @@
-use Rattle.seat_bench.proofs.Seats.{taken_is_open}
+use Rattle.seat_bench.proofs.SeatHolds.{taken_is_open}
 use Rattle.seat_bench.proofs.read_often.Goals as goal
 
 pub read_look_often-right-requires : goal.read_look_often-right-requires

@@ -1,4 +1,4 @@
-use Rattle.shared_tests.proofs.Seats.{taken_is_open}
+use Rattle.shared_tests.proofs.SeatHolds.{taken_is_open}
 use Rattle.shared_tests.proofs.found.read_all.Goals as goal
 
 pub shown-rows-requires : goal.shown-rows-requires

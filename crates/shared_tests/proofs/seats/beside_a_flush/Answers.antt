@@ -1,5 +1,5 @@
 use Rattle.shared_store.specs.Seats.{seat_meaning}
-use Rattle.shared_tests.proofs.Seats.{begun_is_open, says}
+use Rattle.shared_tests.proofs.SeatHolds.{begun_is_open, says}
 use Rattle.shared_tests.proofs.seats.beside_a_flush.Goals as goal
 
 pub beside_flush-requires-clause-open : goal.beside_flush-requires-clause-open

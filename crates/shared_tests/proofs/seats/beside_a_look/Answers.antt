@@ -1,5 +1,5 @@
 use Rattle.shared_store.specs.Seats.{seat_meaning}
-use Rattle.shared_tests.proofs.Seats.{says, taken_is_open}
+use Rattle.shared_tests.proofs.SeatHolds.{says, taken_is_open}
 use Rattle.shared_tests.proofs.seats.beside_a_look.Goals as goal
 
 pub beside_look-requires-clause-open : goal.beside_look-requires-clause-open
