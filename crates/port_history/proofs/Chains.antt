@@ -11,7 +11,7 @@ use Rattle.store_model.specs.Told.{added_entry, history_after}
 use Rattle.store_model.proofs.TellsHistory.{step_tells}
 use Rattle.store_state.specs.Made.{AreMade}
 use Rattle.store_state.specs.Meaning.{Meaning, Called}
-use Rattle.port_history.specs.Entries.{Entry, AreEntries, Legal, added_by, and_added, call_of, history_from, open_from, own}
+use Rattle.port_history.specs.Entries.{Entry, AreEntries, CountsRise, Legal, added_by, and_added, call_of, history_from, open_from, own}
 
 -- ---- in two parts
 
@@ -65,6 +65,14 @@ module _ {P : Type 0} (m : Meaning P) where
   faults_chain old new [] made = omega (arith, ap m.faults made)
   faults_chain old new (x ∷ es) made = omega (arith, made.1.later, faults_chain made.0 new es made.4)
 
+  pub counts_chain : (old new : P) (es : List Entry) → AreEntries m old es new → CountsRise (m.faults old) es (m.faults new)
+  counts_chain old new [] made = omega (arith, ap m.faults made)
+  counts_chain old new (x ∷ es) made = (
+    omega (arith, made.2),
+    omega (arith, made.2, made.3, made.1.later),
+    subst (λ (n : ℕ). CountsRise n es (m.faults new)) (sym made.3) (counts_chain made.0 new es made.4),
+  )
+
   pub entries_made : (old new : P) (es : List Entry) → AreEntries m old es new → AreMade m old (map call_of es) new
   entries_made old new [] made = made
   entries_made old new (x ∷ es) made = (made.0, made.1, entries_made made.0 new es made.4)
@@ -80,3 +88,7 @@ legal_history before after m m' (e ∷ es) h =
 pub legal_faults : (before after : ℕ) (m m' : Machine) (es : List Entry) → Legal before m es after m' → before ≤ after
 legal_faults before after m m' [] h = omega (arith, h.0)
 legal_faults before after m m' (e ∷ es) h = omega (arith, h.2, legal_faults e.after after h.0 m' es h.4)
+
+pub legal_counts : (before after : ℕ) (m m' : Machine) (es : List Entry) → Legal before m es after m' → CountsRise before es after
+legal_counts before after m m' [] h = omega (arith, h.0)
+legal_counts before after m m' (e ∷ es) h = (omega (arith, h.1), omega (arith, h.1, h.2), legal_counts e.after after h.0 m' es h.4)

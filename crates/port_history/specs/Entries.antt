@@ -59,3 +59,9 @@ Legal before m [] after m' = (after ≡ before) × (m' ≡ m)
 Legal before m (e ∷ es) after m' =
     (between : Machine) × (e.before ≡ before) × (before ≤ e.after) × Step before e.after m e.event e.reply between
     × Legal e.after between es after m'
+
+-- Their counts of faults never fall: the first isn't below this number, none is below one before it, and the last isn't above that
+-- number.
+abbrev pub CountsRise : ℕ → List Entry → ℕ → Type 0
+CountsRise first [] last = first ≤ last
+CountsRise first (e ∷ es) last = (first ≤ e.before) × (e.before ≤ e.after) × CountsRise e.after es last

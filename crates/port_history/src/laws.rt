@@ -8,7 +8,7 @@ ghost use Rattle.store_model.specs.Step.{Machine};
 ghost use Rattle.store_model.specs.Told.{history_after};
 ghost use Rattle.store_state.specs.Made.{AreMade};
 ghost use Rattle.store_state.specs.Meaning.{Called};
-ghost use Rattle.port_history.specs.Entries.{Entry, AreEntries, Legal, added_by, call_of, history_from, open_from, own};
+ghost use Rattle.port_history.specs.Entries.{Entry, AreEntries, CountsRise, Legal, added_by, call_of, history_from, open_from, own};
 
 use store_state::LookPort;
 
@@ -52,4 +52,12 @@ pub fn legal_entries_make_the_history()
     ensures history { (before after : ℕ) (m m' : Machine) (entries : List Entry) → Legal before m entries after m' →
         m'.history ≡ history_from m.history entries }
     ensures faults { (before after : ℕ) (m m' : Machine) (entries : List Entry) → Legal before m entries after m' → before ≤ after }
+{}
+
+/// The counts of faults in entries never fall, and stand between that of the port before them and that of the port after them.
+pub fn counts_never_fall<P: LookPort>(old: &P, new: &P)
+    ensures made { (entries : List Entry) → AreEntries P.meaning old.now entries new.now →
+        CountsRise (P.meaning.faults old.now) entries (P.meaning.faults new.now) }
+    ensures legal { (before after : ℕ) (m m' : Machine) (entries : List Entry) → Legal before m entries after m' →
+        CountsRise before entries after }
 {}

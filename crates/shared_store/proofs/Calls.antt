@@ -1,8 +1,9 @@
 -- What a seat does is one call of its port.
 use Rattle.std.proofs.Common.{◌≡◌, ℕ, ◌+◌, ◌<◌, ◌==◌, zero, suc, List, [], ◌∷◌, ◌++◌, Bool, true, false, not, refl, sym, ◌∙◌, ap, subst, arith, length, filter, slice_index_or, Some, None, Result, Ok, Err, inl, inr}
-use Rattle.std.specs.Prelude.{IsTrue, IfOk, ◌||◌}
+use Rattle.std.specs.Prelude.{IsTrue, IfOk, ◌-◌, ◌^◌, ◌&&◌, ◌||◌, nat_le, nat_lt}
 use Rattle.std.specs.List.{Contains, flat_map}
 use Rattle.std.proofs.lemmas.List.Elements.{Contains-append_cases, Contains-append_left, Contains-append_right}
+use Rattle.std.proofs.lemmas.Bool.{le-leb, le-ltb, ltb-false}
 use Rattle.std.proofs.lemmas.Option.{same_Some}
 use Rattle.span_types.specs.Faults.{Rose}
 use Rattle.span_types.specs.declared.spans.Row.{Row}
@@ -31,7 +32,7 @@ use Rattle.block_info.specs.InfoParts.{InfoParts}
 use Rattle.port_history.specs.Entries.{Entry, history_from, added_by}
 use Rattle.shared_store.specs.Seen.{kept_of, bytes_in, some_fails}
 use Rattle.shared_store.specs.Rule.{IsFound, IsOwn, IsKnown, IsAppended, showing, with_seen}
-use Rattle.shared_store.specs.Seats.{Stand, calls_of, one, is_fault, faults_in, reads_in, least_calls, calls_in, told_by, SeatKnows, seat_meaning}
+use Rattle.shared_store.specs.Seats.{Stand, calls_of, one, has_risen, is_fault, faults_in, reads_in, least_calls, calls_in, told_by, SeatKnows, seat_meaning}
 use Rattle.shared_store.specs.declared.known.Known.{Known}
 use Rattle.port_history.proofs.Chains.{history_append, from_is_grown}
 use Rattle.store_state.proofs.HoldLaws.{opens_new, stays_open}
@@ -138,10 +139,25 @@ made_least (CommitCompact job rows) _ n n' is = rises_by 7 n n' is
 made_least (ReadPage pin file page) _ n n' is = (omega (arith, is), omega (arith, is))
 made_least _ _ n n' is = omega (arith, is)
 
--- what answers no fault isn't counted as one
 no_fault : (r : Reply) → (r ≡ Refused Fault → ⊥) → is_fault r ≡ false
 no_fault (Refused Fault) h = absurd (h refl)
 no_fault _ h = refl
+
+and_false : (a : Bool) → (a && false) ≡ false
+and_false true = refl
+and_false false = refl
+
+-- a call in which the port's count stayed, and which answered no fault, isn't counted
+not_risen : (n n' : ℕ) (r : Reply) → n' ≡ n → (r ≡ Refused Fault → ⊥) → has_risen n n' r ≡ false
+not_risen n n' r same other =
+    (λ i. le-ltb n n' (omega (arith, same)) i || (nat_le (2 ^ 64 - 1) n' && no_fault r other i)) ∙ and_false (nat_le (2 ^ 64 - 1) n')
+
+-- one that answered a fault, where the port's count rose or stands at its last value, is
+is_risen : (n n' : ℕ) (r : Reply) → Rose n n' → r ≡ Refused Fault → has_risen n n' r ≡ true
+is_risen n n' r rose is = elim (nat_lt n n') as (λ t. nat_lt n n' ≡ t → (t || (nat_le (2 ^ 64 - 1) n' && is_fault r)) ≡ true) [
+  | true ↦ λ e. refl
+  | false ↦ λ e. let l = ltb-false n n' e in (λ i. le-leb (2 ^ 64 - 1) n' (omega (arith, rose, l)) i && ap is_fault is i)
+] refl
 
 -- ---- the call
 
@@ -178,17 +194,17 @@ module _ {C : Type 0} (m : Meaning C) (key : C) (e : Event) (r : Reply) (before 
         | inr o ↦ opens_new m before core e r hold called (found.held, found.holds) o
       ]
 
-  one_fault : faults_in (calls_of w) ≡ faults_in (calls_of v) + one (is_fault r)
+  one_fault : faults_in (calls_of w) ≡ faults_in (calls_of v) + one (has_risen (m.faults before) (m.faults core) r)
   one_fault = ap faults_in app.mine ∙ faults_append (calls_of v) (app.entry ∷ [])
-      ∙ ap (λ (x : Reply). faults_in (calls_of v) + (one (is_fault x) + 0)) app.its_reply ∙ omega arith
+      ∙ (λ i. faults_in (calls_of v) + (one (has_risen (app.its_before i) (app.its_after i) (app.its_reply i)) + 0)) ∙ omega arith
 
   some_fault : r ≡ Refused Fault → Rose (faults_in (calls_of v)) (faults_in (calls_of w))
   some_fault is =
-      let more : faults_in (calls_of w) ≡ faults_in (calls_of v) + 1 = one_fault ∙ ap (λ (x : Reply). faults_in (calls_of v) + one (is_fault x)) is in
+      let more : faults_in (calls_of w) ≡ faults_in (calls_of v) + 1 = one_fault ∙ ap (λ (t : Bool). faults_in (calls_of v) + one t) (is_risen (m.faults before) (m.faults core) r (called.cause is) is) in
       omega (arith, more)
 
   same_faults : (r ≡ Refused Fault → ⊥) → faults_in (calls_of w) ≡ faults_in (calls_of v)
-  same_faults other = one_fault ∙ ap (λ (t : Bool). faults_in (calls_of v) + one t) (no_fault r other) ∙ omega arith
+  same_faults other = one_fault ∙ ap (λ (t : Bool). faults_in (calls_of v) + one t) (not_risen (m.faults before) (m.faults core) r (called.quiet other) other) ∙ omega arith
 
   one_read : reads_in (calls_of w) ≡ reads_in (calls_of v) + reads_of e
   one_read = ap reads_in app.mine ∙ reads_append (calls_of v) (app.entry ∷ []) ∙ ap (λ (x : Event). reads_in (calls_of v) + (reads_of x + 0)) app.its_event ∙ omega arith

@@ -2,7 +2,9 @@
 use Rattle.std.proofs.Common.{◌≡◌, ℕ, ◌+◌, ◌≤◌, ◌==◌, Bool, true, false, List, [], ◌∷◌, ◌++◌, Option, Some, None, refl, sym, ◌∙◌, ap, subst, arith, not, filter, if◌then◌else◌, inl, inr}
 use Rattle.std.specs.Prelude.{◌||◌}
 use Rattle.std.specs.List.{Contains}
+use Rattle.std.proofs.lemmas.List.{append-nil}
 use Rattle.std.proofs.lemmas.List.Elements.{Contains-append_cases}
+use Rattle.std.proofs.lemmas.Option.{same_Some}
 use Rattle.store_model.specs.Choice.{choice}
 use Rattle.store_model.specs.Event.{Event, Reply}
 use Rattle.store_model.specs.Event.Reply.{Fine, Refused}
@@ -24,16 +26,21 @@ use Rattle.store_model.proofs.Chosen.{choice_part, part_within}
 use Rattle.store_model.proofs.Numbers.{named, one_number, same_number, times-append, times_itself}
 use Rattle.store_model.proofs.TellsHistory.{split, step_tells, step_opens, not_in_nil, only_one, plain_opens}
 use Rattle.store_state.specs.Cores.{CoreMeaning, CoreKnows, CoreDid, CoreShown, meaning_of}
-use Rattle.store_state.specs.Meaning.{View}
+use Rattle.store_state.specs.Meaning.{View, Called}
 use Rattle.disk_model.specs.declared.disk.Device.{Ghosts}
-use Rattle.store_core.specs.Cores.{CoreStandsFor}
+use Rattle.store_core.specs.Cores.{CoreShows, CoreStandsFor}
 use Rattle.store_core.specs.Events.{Did}
 use Rattle.store_core.specs.declared.store.Core.{Core}
-use Rattle.port_history.specs.Entries.{Entry, AreEntries, Legal}
+use Rattle.port_history.specs.Entries.{Entry, AreEntries, Legal, own}
+use Rattle.port_history.proofs.Chains.{counts_chain, legal_history}
 use Rattle.store_core.specs.Port.{port_of, shown_by}
 use Rattle.shared_store.proofs.Files.{written_is_its}
 use Rattle.shared_store.proofs.Lists.{unended, was_there}
 use Rattle.shared_store.specs.Apart.{AreStrangers, IsUnshared, written_by}
+use Rattle.shared_store.specs.Over.{AreCallsOf, HasCalled, IsTakenBack}
+use Rattle.shared_store.specs.Rule.{IsFound}
+use Rattle.shared_store.specs.Seats.{Stand, seat_meaning}
+use Rattle.shared_store.specs.declared.known.Known.{Known}
 
 -- ---- files in use
 
@@ -248,20 +255,71 @@ core_is_unshared g = cores_are_unshared (shown_by g) (Did g)
     (λ port m shown writes. shown.state.has.read_only ∙ writes)
 
 -- its calls are legal
-pub entries_are_legal : {D : Type 0} (g : Ghosts D) (old new : Core D) (es : List Entry) → AreEntries (port_of g) old es new → (m : Machine) → CoreStandsFor g old m
-    → (m' : Machine) × CoreStandsFor g new m' × Legal (g.faults old.disk) m es (g.faults new.disk) m'
-entries_are_legal {D} g old new [] made m stands =
-    (m, subst (λ (c : Core D). CoreStandsFor g c m) (sym made) stands, (ap (λ (c : Core D). g.faults c.disk) made, refl))
-entries_are_legal g old new (e ∷ es) made m stands =
-    let s = made.1.did.stepped m stands in
-    let rest = entries_are_legal g made.0 new es made.4 s.machine s.stands in (
+legal_by : {D : Type 0} (g : Ghosts D) (is_with : Core D → Machine → Type 0)
+    → ((old new : Core D) (e : Event) (r : Reply) → Did g old e r new → (m : Machine) → is_with old m → (m' : Machine) × is_with new m' × Step (g.faults old.disk) (g.faults new.disk) m e r m')
+    → (old new : Core D) (es : List Entry) → AreEntries (port_of g) old es new → (m : Machine) → is_with old m
+    → (m' : Machine) × is_with new m' × Legal (g.faults old.disk) m es (g.faults new.disk) m'
+legal_by {D} g is_with steps old new [] made m is =
+    (m, subst (λ (c : Core D). is_with c m) (sym made) is, (ap (λ (c : Core D). g.faults c.disk) made, refl))
+legal_by g is_with steps old new (e ∷ es) made m is =
+    let s = steps old made.0 e.event e.reply made.1.did m is in
+    let rest = legal_by g is_with steps made.0 new es made.4 s.0 s.1 in (
       rest.0,
       rest.1,
       (
-        s.machine,
+        s.0,
         made.2,
         omega (arith, made.1.later, made.3),
-        subst (λ (n : ℕ). Step (g.faults old.disk) n m e.event e.reply s.machine) (sym made.3) s.step,
-        subst (λ (n : ℕ). Legal n s.machine es (g.faults new.disk) rest.0) (sym made.3) rest.2,
+        subst (λ (n : ℕ). Step (g.faults old.disk) n m e.event e.reply s.0) (sym made.3) s.2,
+        subst (λ (n : ℕ). Legal n s.0 es (g.faults new.disk) rest.0) (sym made.3) rest.2,
       ),
     )
+
+pub entries_are_legal : {D : Type 0} (g : Ghosts D) (old new : Core D) (es : List Entry) → AreEntries (port_of g) old es new → (m : Machine) → CoreStandsFor g old m
+    → (m' : Machine) × CoreStandsFor g new m' × Legal (g.faults old.disk) m es (g.faults new.disk) m'
+entries_are_legal g = legal_by g (CoreStandsFor g) (λ old new e r did m stands. let s = did.stepped m stands in (s.machine, s.stands, s.step))
+
+pub shown_are_legal : {D : Type 0} (g : Ghosts D) (old new : Core D) (es : List Entry) → AreEntries (port_of g) old es new → (m : Machine) → CoreShows g old m
+    → (m' : Machine) × CoreShows g new m' × Legal (g.faults old.disk) m es (g.faults new.disk) m'
+shown_are_legal g = legal_by g (CoreShows g) (λ old new e r did m shows. did.shown m shows)
+
+-- ---- seats over a core
+
+pub are_calls : {D : Type 0} (g : Ghosts D) (key core : Core D) (es : List Entry) → AreEntries (port_of g) key es core → AreCallsOf g key es core
+are_calls g key core es made = record {
+  stands = λ m is.
+      let l = entries_are_legal g key core es made m is in
+      (l.0, l.1, legal_history (g.faults key.disk) (g.faults core.disk) m l.0 es l.2, l.2);
+  shown = λ m is.
+      let l = shown_are_legal g key core es made m is in
+      (l.0, l.1, legal_history (g.faults key.disk) (g.faults core.disk) m l.0 es l.2, l.2);
+  counts = counts_chain (port_of g) key core es made;
+}
+
+pub has_called : {D : Type 0} (g : Ghosts D) (v w : Stand (Core D)) (event : Event) (reply : Reply) → Called (seat_meaning (port_of g)) v event reply w
+    → (key : Core D) → v.known.start ≡ Some key → HasCalled g key v.known event reply w.known
+has_called {D} g v w event reply called key start =
+    let did = called.did in
+    let same : did.key ≡ key = same_Some did.key key (sym did.start ∙ start) in record {
+      core = did.core;
+      legal = are_calls g key did.core w.known.seen.entries (subst (λ (c : Core D). AreEntries (port_of g) c w.known.seen.entries did.core) same did.made);
+      between = did.between;
+      entry = did.entry;
+      begins = did.seen;
+      its_event = did.its_event;
+      its_reply = did.its_reply;
+      mine = did.mine;
+    }
+
+pub is_taken_back : {D : Type 0} (g : Ghosts D) (key core : Core D) (v : Known (Core D)) → IsFound (port_of g) key v core → IsTakenBack g key v core
+is_taken_back g key core v found = record {
+  entries = found.entries;
+  legal = are_calls g key core found.entries found.made;
+  later = found.later;
+  begins = found.begins;
+  others = found.others;
+  whole = λ all.
+      let none = found.whole all in
+      let same : v.seen.entries ≡ found.entries = sym (found.begins ∙ ap (λ (es : List Entry). v.seen.entries ++ es) none.0 ∙ append-nil v.seen.entries) in
+      (same, ap (own v.seen.names) same ∙ none.1);
+}

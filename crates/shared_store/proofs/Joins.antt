@@ -130,7 +130,7 @@ among_append : (n : ℕ) (xs ys : List ℕ) → is_among n (xs ++ ys) ≡ (is_am
 among_append n [] ys = refl
 among_append n (x ∷ xs) ys = ap (λ (t : Bool). (x == n) || t) (among_append n xs ys) ∙ or_assoc (x == n) (is_among n xs) (is_among n ys)
 
-joined_among : (n : ℕ) (xs ys : List ℕ) → is_among n (joined_names xs ys) ≡ (is_among n xs || is_among n ys)
+pub joined_among : (n : ℕ) (xs ys : List ℕ) → is_among n (joined_names xs ys) ≡ (is_among n xs || is_among n ys)
 joined_among n [] ys = refl
 joined_among n (x ∷ xs) [] = or_false (is_among n (x ∷ xs))
 joined_among n (x ∷ xs) (y ∷ ys) =
@@ -142,10 +142,10 @@ joined_among n (x ∷ xs) (y ∷ ys) =
 joined_cases : (n : ℕ) (xs ys : List ℕ) → is_among n (joined_names xs ys) ≡ true → (is_among n xs ≡ true) ⊎ (is_among n ys ≡ true)
 joined_cases n xs ys h = or_cases (is_among n xs) (is_among n ys) (sym (joined_among n xs ys) ∙ h)
 
-joined_left : (n : ℕ) (xs ys : List ℕ) → is_among n xs ≡ true → is_among n (joined_names xs ys) ≡ true
+pub joined_left : (n : ℕ) (xs ys : List ℕ) → is_among n xs ≡ true → is_among n (joined_names xs ys) ≡ true
 joined_left n xs ys h = joined_among n xs ys ∙ ap (λ (t : Bool). t || is_among n ys) h
 
-joined_right : (n : ℕ) (xs ys : List ℕ) → is_among n ys ≡ true → is_among n (joined_names xs ys) ≡ true
+pub joined_right : (n : ℕ) (xs ys : List ℕ) → is_among n ys ≡ true → is_among n (joined_names xs ys) ≡ true
 joined_right n xs ys h = joined_among n xs ys ∙ ap (λ (t : Bool). is_among n xs || t) h ∙ or_true (is_among n xs)
 
 joined_neither : (n : ℕ) (xs ys : List ℕ) → is_among n xs ≡ false → is_among n ys ≡ false → is_among n (joined_names xs ys) ≡ false

@@ -5,6 +5,7 @@ pub mod Keeps
 pub mod Appends
 pub mod Splits
 pub mod Joins
+pub mod Both
 pub mod Calls
 pub mod Files
 pub mod CoreLaws

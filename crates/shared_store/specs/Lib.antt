@@ -4,3 +4,4 @@ pub mod Rule
 pub mod Idle
 pub mod Seats
 pub mod Told
+pub mod Over

@@ -1,11 +1,12 @@
 -- What a seat shows as a port.
-use Rattle.std.specs.Prelude.{◌≡◌, ℕ, ◌+◌, Bool, true, false, List, [], ◌∷◌, ◌++◌, Contains, Option, Some, None, if◌then◌else◌, length, IsTrue}
+use Rattle.std.specs.Prelude.{◌≡◌, ℕ, ◌+◌, ◌-◌, ◌^◌, Bool, true, false, ◌&&◌, ◌||◌, nat_le, nat_lt, List, [], ◌∷◌, ◌++◌, Contains, Option, Some, None, if◌then◌else◌, length, IsTrue}
 use Rattle.atomic_table.specs.Seated.{TableId}
 use Rattle.store_model.specs.Event.{Event, Reply}
 use Rattle.store_model.specs.Event.Event.{Push, BeginFlush, BeginCompact, WritePiece, CommitFlush, CommitCompact, Reclaim}
 use Rattle.store_model.specs.Event.Reply.{Count, Nothing, Refused}
 use Rattle.store_model.specs.Event.Refusal.{Fault}
 use Rattle.store_model.specs.Holds.{Hold}
+use Rattle.store_model.specs.State.{is_among}
 use Rattle.store_state.specs.Calls.{reclaim_calls}
 use Rattle.store_state.specs.Meaning.{View, Meaning, Called, IsOpen, reads_of}
 use Rattle.port_history.specs.Entries.{Entry, own, history_from, AreEntries}
@@ -26,10 +27,14 @@ abbrev pub is_fault : Reply → Bool
 is_fault (Refused Fault) = true
 is_fault _ = false
 
--- a port's count of faults rises in a call, or stands at its last value, just where it answers a fault
+-- A port's count of faults rose in a call; or it stood at its last value, where it can't rise, and the call answered a fault.
+abbrev pub has_risen : (before after : ℕ) → Reply → Bool
+has_risen before after reply = nat_lt before after || (nat_le (2 ^ 64 - 1) after && is_fault reply)
+
+-- in so many calls the port's count did so
 abbrev pub faults_in : List Entry → ℕ
 faults_in [] = 0
-faults_in (e ∷ es) = one (is_fault e.reply) + faults_in es
+faults_in (e ∷ es) = one (has_risen e.before e.after e.reply) + faults_in es
 
 abbrev pub reads_in : List Entry → ℕ
 reads_in [] = 0
@@ -79,6 +84,18 @@ stand_of table known = record { table = table; known = known }
 -- Where bytes are told, the second shows of the files of what the first holds the bytes that the first shows.
 abbrev pub ShowsStill : {C : Type 0} → Meaning C → Stand C → Stand C → Type 0
 ShowsStill m v w = IsTrue (told_by m w.known.start) → SameBytes v.known.seen.holds v.known.seen.kept w.known.seen.kept
+
+-- Two seats that were made one: what it has seen begins with what each had seen, its names, parts, looks and jobs are those of both,
+-- and its calls are those of both, each once and those of each in their order.
+pub record IsBoth {C : Type 0} (v w both : Known C) : Type 0 where
+  pub first : (later : List Entry) × (both.seen.entries ≡ v.seen.entries ++ later)
+  pub second : (later : List Entry) × (both.seen.entries ≡ w.seen.entries ++ later)
+  pub parts : both.parts ≡ v.parts + w.parts
+  pub names : (n : ℕ) → is_among n both.seen.names ≡ (is_among n v.seen.names || is_among n w.seen.names)
+  pub holds : both.seen.holds ≡ v.seen.holds ++ w.seen.holds
+  pub of_first : own v.seen.names (calls_of both) ≡ calls_of v
+  pub of_second : own w.seen.names (calls_of both) ≡ calls_of w
+  pub no_more : length (calls_of both) ≡ length (calls_of v) + length (calls_of w)
 
 -- There is one order of all calls, up to this one: it begins with what the seat had seen, in between there is none of the seat's own,
 -- and it ends with this call and this reply. They are calls of the port as it was when it was first shared, and what the seat holds is

@@ -6,10 +6,12 @@
 
 mod asked;
 mod cores;
+mod crosses;
 mod flush_port;
 mod held;
 mod known;
 mod look_port;
+mod made;
 mod plays;
 mod port;
 mod seat;
@@ -18,10 +20,13 @@ mod ticket;
 mod turn;
 
 pub use cores::{
-    Seat, Shared, Ticket, a_core_crosses, a_core_is_unshared, entries_of_a_core_are_legal,
+    Seat, Shared, Ticket, a_call_of_a_seat_is_legal, a_core_crosses, a_core_is_taken_back,
+    a_core_is_unshared, entries_of_a_core_are_legal,
 };
+pub use crosses::{a_shared_core_crosses, a_shared_port_is_shared, a_ticket_crosses};
 pub use held::{a_call_leaves_what_others_hold, others_leave_what_is_held};
 pub use known::{Known, Past, Turns};
+pub use made::{a_joined_seat_has_what_both_had, a_seat_has_just_its_calls};
 pub use seat::PortSeat;
 pub use shared::SharedPort;
 pub use ticket::PortTicket;
