@@ -157,10 +157,10 @@ fn are_same(one: &Rows, other: &Rows) -> bool {
     same
 }
 
-// Whether both are there, and the same.
+// Whether both are there, with some row, and the same.
 fn are_shown(one: &Option<Rows>, other: &Option<Rows>) -> bool {
     match (one, other) {
-        (Some(one), Some(other)) => are_same(one, other),
+        (Some(one), Some(other)) => one.len() > 0 && are_same(one, other),
         _ => false,
     }
 }
