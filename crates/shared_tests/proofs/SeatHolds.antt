@@ -21,7 +21,7 @@ pub begun_is_open : {P : Type 0} (meaning : Meaning P) (old new : P) (begun : Op
     → Called meaning old BeginFlush (begin_flush_reply (Ok begun)) new → ((held : List Hold) × meaning.holds old held) → IsOpen meaning new (flush_of job)
 begun_is_open meaning old new begun job is called holds =
     opens_new meaning old new BeginFlush (Flushing (flush_parts job)) (flush_of job)
-        (subst (λ (x : Option FlushJob). Called meaning old BeginFlush (begin_flush_reply (Ok x)) new) is called) holds (zero, omega arith, refl)
+    (subst (λ (x : Option FlushJob). Called meaning old BeginFlush (begin_flush_reply (Ok x)) new) is called) holds (zero, omega arith, refl)
 
 -- A look that is taken is open.
 pub taken_is_open : {P : Type 0} (meaning : Meaning P) (old new : P) (look : Look) → Called meaning old TakeLook (Looked (look_parts look)) new
