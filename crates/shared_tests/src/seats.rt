@@ -52,6 +52,21 @@ pub(crate) fn two<Q: LookPort, R>(
     }
 }
 
+// The right to a seat that is made of two.
+fn one<Q: LookPort, R>(
+    rt: &R,
+    store: &SharedPort<Q>,
+    first: PortTicket<Q>,
+    second: PortTicket<Q>,
+) -> PortTicket<Q>
+    requires first { IsOf store.now first }
+    requires second { IsOf store.now second }
+    ensures { IsOf store.now result }
+{
+    let other = PortSeat::enter(rt, store, second);
+    PortSeat::enter(rt, store, first).join(other).leave()
+}
+
 // What a seat is told that follows a plan and is left then.
 fn follow_at<Q: Port, R: Wait>(
     rt: &R,
@@ -256,7 +271,8 @@ fn hosted<Q: Port + Send, R: Threads + Wait + Sync>(
     (before, beside)
 }
 
-// What seats of a port are told, and the port that they leave. None out of memory, or where the host holds nothing, though it should.
+// What seats of a port are told, and the port that they leave. The last seat is made of two. None out of memory, or where the host holds
+// nothing, though it should.
 fn shared_by<Q: Port + Drop + Send, R: Threads + Wait + Sync>(
     rt: &R,
     alloc: Global,
@@ -272,11 +288,13 @@ fn shared_by<Q: Port + Drop + Send, R: Threads + Wait + Sync>(
     let (ticket, first) = two(rt, &store, ticket);
     let (ticket, second) = two(rt, &store, ticket);
     let (ticket, last) = two(rt, &store, ticket);
+    let (ticket, spare) = two(rt, &store, ticket);
     let pair = Pair {
         first: (first, plans.first),
         second: (second, plans.second),
     };
     let (before, beside) = hosted(rt, alloc, &store, host, pair, plans);
+    let last = one(rt, &store, last, spare);
     let last = follow_at(rt, alloc, &store, last, plans.last);
     let port = store.close(rt, ticket);
     let ((first, second), same) = beside?;
