@@ -21,6 +21,7 @@ mod ReadOnly
 mod FaultLaws
 mod FaultRuns
 mod Counted
+pub mod OnDisk
 pub mod CoreSessions
 pub mod EndLaws
 pub mod Unsure

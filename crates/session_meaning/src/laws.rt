@@ -3,13 +3,14 @@
 //!
 //! Each function has an empty body: its contract is the statement, and its proof stands in `proofs/laws/`. `headline`
 //! calls `pushes_have_their_causes` to have its contract, and nothing calls the others; proofs of `headline` and
-//! `trace_shell` cite the lemmas of some. The parameters name a core, before and after.
+//! `trace_shell` cite the lemmas of some. The parameters name a core, before and after, or the disks of two runs.
 
 ghost use Rattle.std.specs.Prelude.{Bool, IsTrue, true, ◌≡◌, ◌≢◌, ◌⊎◌, ◌<◌, ◌≤◌, ◌+◌, ◌++◌, List, [], ◌∷◌, Option, Some, None, Ok, false, length, take, ℕ};
 ghost use Rattle.std.specs.List.{Contains, list_any};
 ghost use Rattle.command_words.specs.Commands.{Command, Spells};
 ghost use Rattle.disk_model.specs.Counts.{RoseBy};
-ghost use Rattle.disk_model.specs.Images.{Image};
+ghost use Rattle.disk_model.specs.Crash.{LeavesOnly};
+ghost use Rattle.disk_model.specs.Images.{Image, bytes_of};
 ghost use Rattle.compactor.specs.Rounds.{IsCompactRound};
 ghost use Rattle.flusher.specs.Rounds.{IsFlushRound};
 ghost use Rattle.span_types.specs.Faults.{Rose};
@@ -26,12 +27,15 @@ ghost use Rattle.store_model.specs.Choice.{choice};
 ghost use Rattle.store_model.specs.Event.Event.{BeginCompact};
 ghost use Rattle.store_model.specs.History.{History, count_of, grown};
 ghost use Rattle.store_model.specs.Laws.{Agrees};
-ghost use Rattle.store_images.specs.Stored.{ImageStandsFor, MayStandFor};
-ghost use Rattle.store_core.specs.Cores.{CoreShows};
+ghost use Rattle.store_model.specs.Sound.{uses};
+ghost use Rattle.store_model.specs.State.{State};
+ghost use Rattle.store_images.specs.Stored.{ImageStandsFor, IsTidy, MayStandFor};
+ghost use Rattle.store_core.specs.Cores.{CoreShows, CoreStandsFor};
+ghost use Rattle.store_core.specs.Opening.{BeginsAs};
 ghost use Rattle.store_core.specs.Past.{StandsSince};
 ghost use Rattle.store_core.specs.Port.{port_of};
 ghost use Rattle.store_model.specs.Step.{Machine};
-ghost use Rattle.store_state.specs.Made.{Call};
+ghost use Rattle.store_state.specs.Made.{AreMade, Call};
 ghost use Rattle.store_state.specs.declared.rounds.Refusal.{Refusal as Cause};
 ghost use Rattle.store_state.specs.declared.rounds.Round.{Round};
 ghost use Rattle.store_state.specs.declared.rounds.Round.TheVariants.{Did, Nothing, Refused as IsRefused};
@@ -45,7 +49,7 @@ ghost use Rattle.session_meaning.specs.Runs.{ComesToItsEnd, Edges, GoesWell, IsR
 ghost use Rattle.session_meaning.specs.At.{At, IsStill, history_of};
 ghost use Rattle.session_meaning.specs.Ingest.{AreJoined, Duty, HasFinished, Ingests, duties, most_rounds};
 ghost use Rattle.session_meaning.specs.Session.{IsAnswered, IsAnsweredOrRefused, Session, is_refused};
-ghost use Rattle.session_meaning.specs.Stops.{StandsForLast, StandsWithin, unsure_of_run};
+ghost use Rattle.session_meaning.specs.Stops.{AreTidy, BeginsListed, ListsState, Recovers, StandsForLast, StandsWithin, unsure_of_run};
 ghost use Rattle.session_meaning.specs.Upkeep.{HasEmptied, HasFailedSince, IsClosed};
 
 use disk_model::Device;
@@ -271,4 +275,31 @@ pub fn reclaims_have_their_causes()
     // Else the store writes, and the reply says how many loose files no pin named: these are loose no more.
     ensures emptied { (told : Bool) (before after : At) (files : ℕ)
         → IsAnswered told (Ok Reclaim) before (Reclaimed files) after → HasEmptied before.machine files after.machine }
+{}
+
+/// What upkeep leaves on a disk that shows its bytes.
+pub fn upkeep_stands_on_the_disk<D: Device>(old: &Core<D>, new: &Core<D>)
+    // While a core writes, whatever a crash may leave lists the state for which the core stands.
+    ensures listed { (m : Machine) → CoreStandsFor D.Device.own old.now m → IsTrue (D.tells old.now.disk)
+        → m.read_only ≡ None → (image : Image) → D.may_leave old.now.disk image → ListsState image m.state }
+    // Where all that a crash could leave was tidy, it is so at each moment of the calls that are made on it.
+    ensures tidy { (calls : List Call) → AreMade (port_of D.Device.own) old.now calls new.now → (m : Machine)
+        → CoreStandsFor D.Device.own old.now m → IsTrue (D.tells old.now.disk) → AreTidy (D.may_leave old.now.disk)
+        → LeavesOnly D.moment D.left_since old.now.disk new.now.disk IsTidy }
+{}
+
+/// What the upkeep of a run left is there as the next one begins.
+pub fn the_next_run_begins_as_listed<D: Device>(begun: &D, left: &D, disk: &D, later: &D)
+    // A store that is opened on an image that lists a state begins with its blocks, segments and floor, and with the
+    // log's rows from the floor on.
+    ensures begins { (image : Image) (u : State) (h : History) (moment : ℕ) (m : Machine) → ListsState image u
+        → ImageStandsFor image h → BeginsAs image moment m → BeginsListed image u moment m.state }
+    // So does the next run on what an earlier one left that wrote to its end.
+    ensures next_run { (one next : Outcome) → Recovers D.Device.own begun.now left.now one
+        → Recovers D.Device.own disk.now later.now next → IsTrue one.opened → IsTrue next.opened
+        → one.last.machine.read_only ≡ None → D.may_leave left.now (D.held disk.now)
+        → BeginsListed (D.held disk.now) one.last.machine.state next.moment next.first.machine.state }
+    // In a tidy image that lists a state a file that was given out is empty, or it is one of the state's.
+    ensures in_use { (image : Image) (u : State) (file : ℕ) → ListsState image u → IsTidy image → 2 ≤ file
+        → file < u.next_file → (bytes_of image file ≡ []) ⊎ (1 ≤ uses file u) }
 {}

@@ -16,5 +16,6 @@ pub use laws::{
     calls_answer_as_the_history_says, comes_to_an_end, compactions_come_to_an_end,
     compactions_have_their_causes, each_disk_fault_is_counted, flushes_have_their_causes,
     pushes_have_their_causes, reclaims_have_their_causes, replies_tell_the_history,
-    sessions_keep_the_store, what_is_stored_is_a_base,
+    sessions_keep_the_store, the_next_run_begins_as_listed, upkeep_stands_on_the_disk,
+    what_is_stored_is_a_base,
 };

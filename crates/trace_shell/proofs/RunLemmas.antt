@@ -149,7 +149,9 @@ pub unopened_recovers : {D : Type 0} (g : Ghosts D) (disk later : D) (e : Ending
 unopened_recovers g disk later e kept = record {
   begins = λ opened. absurd (no_truth opened);
   returned = λ opened. absurd (no_truth opened);
+  kept_up = λ opened. absurd (no_truth opened);
   any_moment = λ image left. inl (kept image left);
+  tidy = λ at_first image left. (let was = kept image left in was.2.tidy (at_first was.0 was.1));
 }
 
 -- a disk that wasn't touched is left alone

@@ -75,7 +75,7 @@ pub fn run_alone<
         × (result.status ≡ status_of o.ending) }
     // Over a disk whose bytes are shown and are a store's: it was done from what they store on, queries tell of all
     // that was pushed, wherever it lies, and what is stored as the disk is handed back, or whenever the run is
-    // stopped, holds every push that was accepted by then.
+    // stopped, holds every push that was accepted by then. What upkeep was told to have done stands on the disk.
     ensures recovers { IsTrue (D.tells disk) → IsSoundImage (D.held disk)
         → (o : Outcome) × RefusesOnly P.makes patterns.old patterns.new o.refused
         × IsRunOf true (map string_bytes words.now) o
@@ -132,7 +132,7 @@ pub fn run<
         × (result.status ≡ status_of o.ending) }
     // Over a disk whose bytes are shown and are a store's: it was done from what they store on, queries tell of all
     // that was pushed, wherever it lies, and what is stored as the disk is handed back, or whenever the run is
-    // stopped, holds every push that was accepted by then.
+    // stopped, holds every push that was accepted by then. What upkeep was told to have done stands on the disk.
     ensures recovers { IsTrue (D.tells disk) → IsSoundImage (D.held disk)
         → (o : Outcome) × RefusesOnly P.makes patterns.old patterns.new o.refused
         × IsRunOf true (map string_bytes words.now) o
