@@ -1,7 +1,8 @@
 mod Steps
 mod Looks
-mod QueryLaws
 pub mod Firsts
+pub mod Seen
+mod QueryLaws
 mod RoundSteps
 mod Rounds
 mod RoundLaws

@@ -15,7 +15,12 @@ ghost use Rattle.compactor.specs.Rounds.{IsCompactRound};
 ghost use Rattle.flusher.specs.Rounds.{IsFlushRound};
 ghost use Rattle.span_types.specs.Faults.{Rose};
 ghost use Rattle.span_types.specs.First.{IsFirstOf};
+ghost use Rattle.span_types.specs.Keys.{row_key};
+ghost use Rattle.span_types.specs.declared.ids.TraceId.{TraceId};
 ghost use Rattle.span_types.specs.declared.spans.Row.{Row};
+ghost use Rattle.rows_by_trace.specs.Traces.{is_of_trace};
+ghost use Rattle.query_fanout.specs.declared.searching.Asked.{Asked};
+ghost use Rattle.spanset_eval.specs.declared.results.TraceResult.{TraceResult};
 ghost use Rattle.otlp_spans.specs.declared.read.Reading.{Reading};
 ghost use Rattle.session_text.specs.declared.refusal.Refusal.{Refusal};
 ghost use Rattle.session_text.specs.declared.reply.Reply.{Reply};
@@ -34,6 +39,7 @@ ghost use Rattle.store_core.specs.Cores.{CoreShows, CoreStandsFor};
 ghost use Rattle.store_core.specs.Opening.{BeginsAs};
 ghost use Rattle.store_core.specs.Past.{StandsSince};
 ghost use Rattle.store_core.specs.Port.{port_of};
+ghost use Rattle.store_core.specs.Waiting.{rows_outside};
 ghost use Rattle.store_model.specs.Step.{Machine};
 ghost use Rattle.store_state.specs.Made.{AreMade, Call};
 ghost use Rattle.store_state.specs.declared.rounds.Refusal.{Refusal as Cause};
@@ -48,15 +54,15 @@ ghost use Rattle.session_meaning.specs.Pushes.{HasRoomFor, HasRoomForPush, accep
 ghost use Rattle.session_meaning.specs.Runs.{ComesToItsEnd, Edges, GoesWell, IsRunOf, Outcome, TellsAll};
 ghost use Rattle.session_meaning.specs.At.{At, IsStill, history_of};
 ghost use Rattle.session_meaning.specs.Ingest.{AreJoined, Duty, HasFinished, Ingests, duties, most_rounds};
-ghost use Rattle.session_meaning.specs.Session.{IsAnswered, IsAnsweredOrRefused, Session, is_refused};
+ghost use Rattle.session_meaning.specs.Session.{IsAnswered, IsAnsweredOrRefused, IsFound, IsFoundSeen, IsSure, IsTraceIn, IsTraceSeen, Session, is_refused};
 ghost use Rattle.session_meaning.specs.Stops.{AreTidy, BeginsListed, ListsState, Recovers, StandsForLast, StandsWithin, unsure_of_run};
 ghost use Rattle.session_meaning.specs.Upkeep.{HasEmptied, HasFailedSince, IsClosed};
 
 use disk_model::Device;
 use store_core::Core;
 
-/// What is answered by calls of a store is answered as the history says, but that what queries tell isn't said where
-/// the store lists blocks: the machine of the store, with its logs and pins, tells no more than the pushes do.
+/// What is answered by calls of a store is answered as the history says, but that of the rows which queries see in
+/// blocks nothing is said: the machine of the store, with its logs and pins, tells no more than the pushes do.
 pub fn calls_answer_as_the_history_says()
     ensures item { (item : Item) (before after : At) (reply : Reply) → Agrees before.machine
         → IsAnsweredByCalls item before reply after → IsAnsweredOrRefused false item before reply after }
@@ -67,8 +73,8 @@ pub fn calls_answer_as_the_history_says()
 
 /// What is answered over the port of a core is a session.
 pub fn a_core_answers_as_the_history_says<D: Device>(old: &Core<D>, new: &Core<D>)
-    // From a machine on that its memory shows, whatever its disk holds, to one that it shows then. What queries tell
-    // isn't said where the store lists blocks.
+    // From a machine on that its memory shows, whatever its disk holds, to one that it shows then. Of the rows which
+    // queries see in blocks nothing is said.
     ensures shown { (items : List Item) (replies : List Reply)
         → AreAnsweredOver (port_of D.Device.own) old.now items replies new.now → (m : Machine)
         → CoreShows D.Device.own old.now m → (later : Machine) × CoreShows D.Device.own new.now later
@@ -134,6 +140,23 @@ pub fn replies_tell_the_history()
         → (number kept rejected skipped : ℕ)
         → Session told first items (earlier ++ Pushed number kept rejected skipped ∷ later) last
         → (reply : Reply) (known : ℕ) → Contains later reply → known_pushes reply ≡ Some known → number < known }
+{}
+
+/// What queries tell of what they see.
+pub fn queries_tell_what_they_see()
+    // Where it is sure what the blocks hold, a look-up is told what it finds at the history, and so is a search.
+    ensures traces { (told : Bool) (id : TraceId) (at : At) (rows : List Row) → IsSure told at
+        → IsTraceSeen told id at rows → IsTraceIn id (history_of at) rows }
+    ensures searches { (told : Bool) (asked : Asked) (at : At) (results : List TraceResult) → IsSure told at
+        → IsFoundSeen told asked at results → IsFound asked (history_of at) results }
+    // Whatever the blocks hold, no span that waits outside of them is missing: a look-up of its trace is told a row
+    // with its key, and a search is answered over one.
+    ensures waiting { (told : Bool) (id : TraceId) (at : At) (rows : List Row) (row : Row)
+        → IsTraceSeen told id at rows → Contains (rows_outside at.machine.state) row → is_of_trace id row ≡ true
+        → (x : Row) × Contains rows x × (row_key x ≡ row_key row) }
+    ensures searched { (told : Bool) (asked : Asked) (at : At) (results : List TraceResult) (row : Row)
+        → (seen : IsFoundSeen told asked at results) → Contains (rows_outside at.machine.state) row
+        → (x : Row) × Contains seen.rows x × (row_key x ≡ row_key row) }
 {}
 
 /// Which pushes are refused, and which are accepted.

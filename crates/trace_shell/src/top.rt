@@ -66,8 +66,8 @@ pub fn run_alone<
     patterns: &mut P,
     gate: &G,
 ) -> Ended<D>
-    // What the words ask was done, the maker refused what the outcome says, and the status tells how it ended. Of a
-    // store that lists blocks it isn't said what queries tell.
+    // What the words ask was done, the maker refused what the outcome says, and the status tells how it ended. Queries
+    // tell of all rows outside of blocks; what they find in blocks isn't said.
     ensures ran { (o : Outcome) × RefusesOnly P.makes patterns.old patterns.new o.refused
         × IsRunOf false (map string_bytes words.now) o
         (edges S.left S.faults K.taken K.faults C.moments D.Device.own source.old sink.old clock.old disk)
@@ -123,8 +123,8 @@ pub fn run<
     patterns: &mut P,
     gate: &G,
 ) -> Ended<D>
-    // What the words ask was done, the maker refused what the outcome says, and the status tells how it ended. Of a
-    // store that lists blocks it isn't said what queries tell.
+    // What the words ask was done, the maker refused what the outcome says, and the status tells how it ended. Queries
+    // tell of all rows outside of blocks; what they find in blocks isn't said.
     ensures ran { (o : Outcome) × RefusesOnly P.makes patterns.old patterns.new o.refused
         × IsRunOf false (map string_bytes words.now) o
         (edges S.left S.faults K.taken K.faults C.moments D.Device.own source.old sink.old clock.old disk)
