@@ -29,4 +29,5 @@ pub mod Unsure
 pub mod IngestLaws
 mod FewerBlocks
 mod IngestRounds
-mod IngestEnds
+pub mod IngestParts
+pub mod Following

@@ -35,6 +35,7 @@ use Rattle.traceql_metrics.specs.Series.{AreSeries}
 use Rattle.client_run.specs.Answers.{asked_of, compact_reply, counted_of, cut_reply, flush_reply, pushed_reply, reclaimed_reply}
 use Rattle.session_meaning.specs.At.{At, IsStep, IsStill, IsUnchanged, history_of}
 use Rattle.session_meaning.specs.Causes.{HasQueryCause, is_disk_fault}
+use Rattle.session_meaning.specs.InOrder.{InOrder}
 use Rattle.session_meaning.specs.Rounds.{IsCompacted, IsFlushed}
 use Rattle.session_meaning.specs.declared.ending.Ending.{Ending}
 use Rattle.session_meaning.specs.declared.ending.Ending.TheVariants.{Answered, ReadFault, Spent, Starved, WriteFault}
@@ -144,10 +145,7 @@ IsAnsweredOrRefused told item before reply after = IsAnswered told item before r
 
 -- What is asked is answered in order, one reply each, from a store to a store.
 abbrev pub Session : Bool → At → List Item → List Reply → At → Type 0
-Session told before [] replies after = (replies ≡ []) × (after ≡ before)
-Session told before (item ∷ items) [] after = ⊥
-Session told before (item ∷ items) (reply ∷ replies) after =
-    (between : At) × IsAnsweredOrRefused told item before reply between × Session told between items replies after
+Session told = InOrder (IsAnsweredOrRefused told)
 
 -- ---- how a session ends, and what stands written
 

@@ -49,11 +49,13 @@ ghost use Rattle.session_meaning.specs.Answering.{AreItemsAnswered, CallsLead, I
 ghost use Rattle.session_meaning.specs.Causes.{HasCompactCause, HasFlushCause, HasPushCause, HasWriteCause, blames_disk, disk_faults};
 ghost use Rattle.session_meaning.specs.Rounds.{HasJoined, HasListed, IsCompacted, IsDoneOrStarved, IsFlushed, IsRound};
 ghost use Rattle.session_meaning.specs.declared.ending.Ending.TheVariants.{Answered, NotOpened, Starved};
-ghost use Rattle.session_meaning.specs.Progress.{AreAnsweredOver, IngestsOver};
+ghost use Rattle.session_meaning.specs.Progress.{AreAnsweredOver, FollowsOver};
 ghost use Rattle.session_meaning.specs.Pushes.{HasRoomFor, HasRoomForPush, accepted_entries, known_pushes};
 ghost use Rattle.session_meaning.specs.Runs.{ComesToItsEnd, Edges, GoesWell, IsRunOf, Outcome, TellsAll};
 ghost use Rattle.session_meaning.specs.At.{At, IsStill, history_of};
-ghost use Rattle.session_meaning.specs.Ingest.{AreJoined, Duty, HasFinished, Ingests, duties, most_rounds};
+ghost use Rattle.session_meaning.specs.Duties.{Duty, Follows, duties, from_lines};
+ghost use Rattle.session_meaning.specs.Ingest.{AreJoined, Far, HasFinished, Ingests, Pushes, Stand};
+ghost use Rattle.session_meaning.specs.Ingest.Far.{stopped, whole};
 ghost use Rattle.session_meaning.specs.Session.{IsAnswered, IsAnsweredOrRefused, IsFound, IsFoundSeen, IsSure, IsTraceIn, IsTraceSeen, Session, is_refused};
 ghost use Rattle.session_meaning.specs.Stops.{AreTidy, BeginsListed, ListsState, Recovers, StandsForLast, StandsWithin, unsure_of_run};
 ghost use Rattle.session_meaning.specs.Upkeep.{HasEmptied, HasFailedSince, IsClosed};
@@ -88,18 +90,40 @@ pub fn a_core_answers_as_the_history_says<D: Device>(old: &Core<D>, new: &Core<D
         × Session true (at_core D.Device.own old.now m) items replies (at_core D.Device.own new.now later) }
 {}
 
-/// What is asked of a core by the duties of an ingest is an ingest: from a machine on that its memory shows, or for
+/// What is asked of a core by the duties of an ingest follows them: from a machine on that its memory shows, or for
 /// which it stands, as of a session.
 pub fn a_core_ingests_as_the_history_says<D: Device>(old: &Core<D>, new: &Core<D>)
     ensures shown { (todo left : List Duty) (told to_tell : Option (List ℕ)) (items : List Item) (replies : List Reply)
-        → IngestsOver D.Device.own todo told old.now items replies new.now left to_tell → (m : Machine)
+        → FollowsOver D.Device.own todo told old.now items replies new.now left to_tell → (m : Machine)
         → CoreShows D.Device.own old.now m → (later : Machine) × CoreShows D.Device.own new.now later
-        × Ingests false todo told (at_core D.Device.own old.now m) items replies (at_core D.Device.own new.now later) left to_tell }
+        × Follows false todo told (at_core D.Device.own old.now m) items replies (at_core D.Device.own new.now later) left to_tell }
     ensures since { (todo left : List Duty) (told to_tell : Option (List ℕ)) (items : List Item) (replies : List Reply)
-        → IngestsOver D.Device.own todo told old.now items replies new.now left to_tell → (m : Machine)
+        → FollowsOver D.Device.own todo told old.now items replies new.now left to_tell → (m : Machine)
         → (start : D) (least : ℕ) → StandsSince D.Device.own start least old.now m → IsTrue (D.tells old.now.disk)
         → (later : Machine) × StandsSince D.Device.own start least new.now later
-        × Ingests true todo told (at_core D.Device.own old.now m) items replies (at_core D.Device.own new.now later) left to_tell }
+        × Follows true todo told (at_core D.Device.own old.now m) items replies (at_core D.Device.own new.now later) left to_tell }
+{}
+
+/// Whoever follows the duties of an ingest asks what an ingest asks.
+pub fn duties_make_an_ingest()
+    // As far as it came.
+    ensures stops { (sure : Bool) (source : List (List ℕ)) (told to_tell : Option (List ℕ)) (left : List Duty) (items : List Item)
+        → (replies : List Reply) (first last : At)
+        → Follows sure (duties source) told first items replies last left to_tell
+        → Ingests sure source (record { store = first; moments = told }) items replies
+        (record { store = last; moments = to_tell }) stopped }
+    // With nothing left, to its end.
+    ensures ends { (sure : Bool) (source : List (List ℕ)) (told to_tell : Option (List ℕ)) (items : List Item)
+        → (replies : List Reply) (first last : At)
+        → Follows sure (duties source) told first items replies last [] to_tell
+        → Ingests sure source (record { store = first; moments = told }) items replies
+        (record { store = last; moments = to_tell }) whole }
+    // With these lines left, and what is to do at the end, it pushed the lines before them.
+    ensures reads { (sure : Bool) (pushed later : List (List ℕ)) (told to_tell : Option (List ℕ)) (items : List Item)
+        → (replies : List Reply) (first last : At)
+        → Follows sure (duties (pushed ++ later)) told first items replies last (from_lines later) to_tell
+        → Pushes sure pushed (record { store = first; moments = told }) items replies
+        (record { store = last; moments = to_tell }) }
 {}
 
 /// A session keeps that the rows of the store are those of its history, and leaves no job open while the store writes.
@@ -210,17 +234,20 @@ pub fn comes_to_an_end()
 
 /// What an ingest asks is asked and answered as in a session, so all that is said of sessions is said of it.
 pub fn an_ingest_is_a_session()
-    ensures { (sure : Bool) (todo left : List Duty) (told to_tell : Option (List ℕ)) (items : List Item)
+    ensures as_far { (sure : Bool) (source : List (List ℕ)) (before after : Stand) (items : List Item) (replies : List Reply)
+        → (far : Far) → Ingests sure source before items replies after far → Session sure before.store items replies after.store }
+    ensures lines { (sure : Bool) (source : List (List ℕ)) (before after : Stand) (items : List Item) (replies : List Reply)
+        → Pushes sure source before items replies after → Session sure before.store items replies after.store }
+    ensures duties { (sure : Bool) (todo left : List Duty) (told to_tell : Option (List ℕ)) (items : List Item)
         → (replies : List Reply) (first last : At)
-        → Ingests sure todo told first items replies last left to_tell → Session sure first items replies last }
+        → Follows sure todo told first items replies last left to_tell → Session sure first items replies last }
 {}
 
-/// An ingest that did all has cut and flushed at its end, has compacted until a compaction joined no blocks, and then
+/// An ingest that came to its end has cut and flushed there, has compacted until a compaction joined no blocks, and then
 /// emptied loose files.
 pub fn an_ingest_finishes()
-    ensures { (sure : Bool) (source : List (List ℕ)) (told to_tell : Option (List ℕ)) (items : List Item)
-        → (replies : List Reply) (first last : At)
-        → Ingests sure (duties source) told first items replies last [] to_tell → HasFinished items replies }
+    ensures { (sure : Bool) (source : List (List ℕ)) (before after : Stand) (items : List Item) (replies : List Reply)
+        → Ingests sure source before items replies after whole → HasFinished items replies }
 {}
 
 /// What a flush makes of the store.
@@ -281,9 +308,9 @@ pub fn compactions_have_their_causes()
 
 /// Compactions one after another that each join blocks come to an end.
 pub fn compactions_come_to_an_end()
-    // There are fewer than an ingest makes at most, so it makes one that joins none.
+    // There are fewer than numbers of files. So an ingest comes to a compaction that joins none.
     ensures bounded { (told : Bool) (items : List Item) (replies : List Reply) (first last : At) → AreJoined items replies
-        → Session told first items replies last → length items < most_rounds }
+        → Session told first items replies last → length items < 4294967295 }
     // Each leaves fewer blocks.
     ensures fewer { (told : Bool) (items : List Item) (replies : List Reply) (first last : At) → AreJoined items replies
         → Session told first items replies last

@@ -25,8 +25,8 @@ use Rattle.client_run.proofs.CoreLemmas.{unsure_stepped}
 use Rattle.session_meaning.specs.declared.ending.Ending.{Ending}
 use Rattle.session_meaning.specs.Asked.{IsNextMoment, after_moment}
 use Rattle.session_meaning.specs.Answering.{at_core}
-use Rattle.session_meaning.specs.Ingest.{Duty, Ingests, duties}
-use Rattle.session_meaning.specs.Progress.{AreAnsweredOver, HasAnsweredOver, IngestsOver}
+use Rattle.session_meaning.specs.Duties.{Duty, Follows, duties}
+use Rattle.session_meaning.specs.Progress.{AreAnsweredOver, HasAnsweredOver, FollowsOver}
 use Rattle.session_meaning.proofs.IngestLaws.{ingest_is_session}
 use Rattle.session_meaning.specs.Pushes.{unsure_entry}
 use Rattle.session_meaning.specs.Runs.{Edges, HasCause, IsPastOpening, Outcome, told_bytes}
@@ -67,8 +67,8 @@ module _ {D : Type 0} (g : Ghosts D) (is_with : Core D → Machine → Type 0) (
     (sessions : (items : List Item) (replies : List Reply) (first last : Core D) (m : Machine) → is_with first m → AreAnsweredOver (port_of g) first items replies last
     → (m' : Machine) × is_with last m' × Session sure (at_core g first m) items replies (at_core g last m'))
     (ingests : (todo : List Duty) (moments : Option (List ℕ)) (items : List Item) (replies : List Reply) (first last : Core D) (m : Machine) (left : List Duty) (to_tell : Option (List ℕ))
-    → is_with first m → IngestsOver g todo moments first items replies last left to_tell
-    → (m' : Machine) × is_with last m' × Ingests sure todo moments (at_core g first m) items replies (at_core g last m') left to_tell) where
+    → is_with first m → FollowsOver g todo moments first items replies last left to_tell
+    → (m' : Machine) × is_with last m' × Follows sure todo moments (at_core g first m) items replies (at_core g last m') left to_tell) where
   pub came_to : (c : Command) (core later : Core D) (m : Machine) (old_left old_taken told left taken to_tell : Option (List ℕ)) (e : Ending) (items : List Item) (replies : List Reply)
       (blamed : List (List ℕ)) → is_with core m → CameOver c g core later old_left old_taken told left taken to_tell e items replies blamed
       → (m' : Machine) × is_with later m' × Session sure (at_core g core m) items replies (at_core g later m')
@@ -82,7 +82,7 @@ module _ {D : Type 0} (g : Ghosts D) (is_with : Core D → Machine → Type 0) (
   came_to ingest core later m (Some text) (Some before) told left taken to_tell e items replies blamed stands came =
       let w = came.2 text before refl refl in
       let run = ingests (duties (lines text)) told items replies core later m w.todo to_tell stands w.asked in
-      let by_lines : CameByLines (λ todo rest. Ingests sure todo told (at_core g core m) items replies (at_core g later run.0) rest to_tell) text before left taken e replies = record {
+      let by_lines : CameByLines (λ todo rest. Follows sure todo told (at_core g core m) items replies (at_core g later run.0) rest to_tell) text before left taken e replies = record {
         pushed = w.pushed;
         later = w.later;
         lines_are = w.lines_are;
@@ -97,8 +97,8 @@ module _ {D : Type 0} (g : Ghosts D) (is_with : Core D → Machine → Type 0) (
         (
           came.1,
           λ all taken_before source sink.
-              subst (λ (t : List ℕ). CameByLines (λ todo rest. Ingests sure todo told (at_core g core m) items replies (at_core g later run.0) rest to_tell) t taken_before left taken e replies) (same text all source)
-              (subst (λ (b : List ℕ). CameByLines (λ todo rest. Ingests sure todo told (at_core g core m) items replies (at_core g later run.0) rest to_tell) text b left taken e replies) (same before taken_before sink) by_lines),
+              subst (λ (t : List ℕ). CameByLines (λ todo rest. Follows sure todo told (at_core g core m) items replies (at_core g later run.0) rest to_tell) t taken_before left taken e replies) (same text all source)
+              (subst (λ (b : List ℕ). CameByLines (λ todo rest. Follows sure todo told (at_core g core m) items replies (at_core g later run.0) rest to_tell) text b left taken e replies) (same before taken_before sink) by_lines),
         ),
       )
   came_to (Alone line) core later m old_left old_taken told left taken to_tell e items replies blamed stands came =
