@@ -25,7 +25,8 @@ loop-rest-preserved g c =
     let bounds = c.args.bounds in
     let found = c.loop-rest.found.items in
     let room : length found < bounds.limit = omega (arith, c.if-len-bounds.false, c.len.ensures) in
-    let left = c.left_of-left.ensures ∙ ap (λ n. let b : Bounds = record { limit = bounds.limit - n; spans_per_set = bounds.spans_per_set } in b) c.len-in-loop-rest.ensures in
+    let count : c.len-in-loop-rest.result ≡ length found = omega (arith, c.len-in-loop-rest.ensures) in
+    let left = c.left_of-left.ensures ∙ ap (λ n. let b : Bounds = record { limit = bounds.limit - n; spans_per_set = bounds.spans_per_set } in b) count in
     record {
       over = next_window c.args.checked.now.patterns (query_tree c.args.checked.now.query) bounds c.left_of-left.result c.args.traces.now c.loop-rest.rest.now
           c.split_at-in-loop-rest.result.0.now c.split_at-in-loop-rest.result.1.now c.min-in-loop-rest.result found c.in_ok-more.more.items c.append.new.self.items
