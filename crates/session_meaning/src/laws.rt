@@ -55,8 +55,10 @@ use store_core::Core;
 /// the store lists blocks: the machine of the store, with its logs and pins, tells no more than the pushes do.
 pub fn calls_answer_as_the_history_says()
     ensures item { (item : Item) (before after : At) (reply : Reply) → Agrees before.machine
-        → IsAnsweredByCalls item before reply after → IsAnsweredOrRefused false item before reply after }
-    ensures session { (items : List Item) (replies : List Reply) (calls : List Call) (first last : At)
+        → IsAnsweredByCalls item before reply after
+        → IsAnsweredOrRefused false item before reply after }
+    ensures session { (items : List Item) (replies : List Reply) (calls : List Call)
+        (first last : At)
         → Agrees first.machine → AreItemsAnswered items replies calls → CallsLead first calls last
         → Session false first items replies last }
 {}
@@ -67,29 +69,41 @@ pub fn a_core_answers_as_the_history_says<D: Device>(old: &Core<D>, new: &Core<D
     // isn't said where the store lists blocks.
     ensures shown { (items : List Item) (replies : List Reply)
         → AreAnsweredOver (port_of D.Device.own) old.now items replies new.now → (m : Machine)
-        → CoreShows D.Device.own old.now m → (later : Machine) × CoreShows D.Device.own new.now later
-        × Session false (at_core D.Device.own old.now m) items replies (at_core D.Device.own new.now later) }
+        → CoreShows D.Device.own old.now m
+        → (later : Machine) × CoreShows D.Device.own new.now later
+        × Session false (at_core D.Device.own old.now m) items replies
+        (at_core D.Device.own new.now later) }
     // From a machine on for which it stands, where its disk shows its bytes: queries tell of all that was pushed,
     // wherever it lies. What was left since an earlier disk goes on standing for the history at some length.
     ensures since { (items : List Item) (replies : List Reply)
-        → AreAnsweredOver (port_of D.Device.own) old.now items replies new.now → (m : Machine) → (start : D) (least : ℕ)
+        → AreAnsweredOver (port_of D.Device.own) old.now items replies new.now → (m : Machine)
+        → (start : D) (least : ℕ)
         → StandsSince D.Device.own start least old.now m → IsTrue (D.tells old.now.disk)
         → (later : Machine) × StandsSince D.Device.own start least new.now later
-        × Session true (at_core D.Device.own old.now m) items replies (at_core D.Device.own new.now later) }
+        × Session true (at_core D.Device.own old.now m) items replies
+        (at_core D.Device.own new.now later) }
 {}
 
 /// What is asked of a core by the duties of an ingest is an ingest: from a machine on that its memory shows, or for
 /// which it stands, as of a session.
 pub fn a_core_ingests_as_the_history_says<D: Device>(old: &Core<D>, new: &Core<D>)
-    ensures shown { (todo left : List Duty) (told to_tell : Option (List ℕ)) (items : List Item) (replies : List Reply)
-        → IngestsOver D.Device.own todo told old.now items replies new.now left to_tell → (m : Machine)
-        → CoreShows D.Device.own old.now m → (later : Machine) × CoreShows D.Device.own new.now later
-        × Ingests false todo told (at_core D.Device.own old.now m) items replies (at_core D.Device.own new.now later) left to_tell }
-    ensures since { (todo left : List Duty) (told to_tell : Option (List ℕ)) (items : List Item) (replies : List Reply)
-        → IngestsOver D.Device.own todo told old.now items replies new.now left to_tell → (m : Machine)
-        → (start : D) (least : ℕ) → StandsSince D.Device.own start least old.now m → IsTrue (D.tells old.now.disk)
+    ensures shown { (todo left : List Duty) (told to_tell : Option (List ℕ)) (items : List Item)
+        (replies : List Reply)
+        → IngestsOver D.Device.own todo told old.now items replies new.now left to_tell
+        → (m : Machine)
+        → CoreShows D.Device.own old.now m
+        → (later : Machine) × CoreShows D.Device.own new.now later
+        × Ingests false todo told (at_core D.Device.own old.now m) items replies
+        (at_core D.Device.own new.now later) left to_tell }
+    ensures since { (todo left : List Duty) (told to_tell : Option (List ℕ)) (items : List Item)
+        (replies : List Reply)
+        → IngestsOver D.Device.own todo told old.now items replies new.now left to_tell
+        → (m : Machine)
+        → (start : D) (least : ℕ) → StandsSince D.Device.own start least old.now m
+        → IsTrue (D.tells old.now.disk)
         → (later : Machine) × StandsSince D.Device.own start least new.now later
-        × Ingests true todo told (at_core D.Device.own old.now m) items replies (at_core D.Device.own new.now later) left to_tell }
+        × Ingests true todo told (at_core D.Device.own old.now m) items replies
+        (at_core D.Device.own new.now later) left to_tell }
 {}
 
 /// A session keeps that the rows of the store are those of its history, and leaves no job open while the store writes.
@@ -101,7 +115,8 @@ pub fn sessions_keep_the_store()
     // A store that wrote at first writes no more only where a call failed since, and then it tells the disk's count
     // after that.
     ensures read_only { (told : Bool) (items : List Item) (replies : List Reply) (first last : At)
-        → Session told first items replies last → first.machine.read_only ≡ None → HasFailedSince first.faults last }
+        → Session told first items replies last → first.machine.read_only ≡ None
+        → HasFailedSince first.faults last }
 {}
 
 /// As many replies are `disk-fault` as calls of the disk failed.
@@ -114,7 +129,8 @@ pub fn each_disk_fault_is_counted()
     ensures of_lines { (moment : ℕ) (line : List ℕ) (refused : List (List ℕ)) (item : Item)
         → AsksAt moment line refused item → blames_disk item ≡ false }
     // Of a run that wasn't stopped by the first call that failed as it opened the store.
-    ensures of_runs { (told : Bool) (words : List (List ℕ)) (c : Command) (o : Outcome) (old new : Edges) → Spells words c
+    ensures of_runs { (told : Bool) (words : List (List ℕ)) (c : Command) (o : Outcome)
+        (old new : Edges) → Spells words c
         → IsRunOf told words o old new → TellsAll c old → o.ending ≢ NotOpened
         → RoseBy (disk_faults o.replies) old.disk_faults new.disk_faults }
 {}
@@ -126,23 +142,29 @@ pub fn replies_tell_the_history()
         → Session told first items replies last
         → history_of last ≡ grown (history_of first) (accepted_entries items replies) }
     // The number in an accepted push's reply is below the count of pushes that any later query knows of.
-    ensures known_later { (told : Bool) (items : List Item) (earlier later : List Reply) (first last : At)
+    ensures known_later { (told : Bool) (items : List Item) (earlier later : List Reply)
+        (first last : At)
         → (number kept rejected skipped : ℕ)
         → Session told first items (earlier ++ Pushed number kept rejected skipped ∷ later) last
-        → (reply : Reply) (known : ℕ) → Contains later reply → known_pushes reply ≡ Some known → number < known }
+        → (reply : Reply) (known : ℕ) → Contains later reply → known_pushes reply ≡ Some known
+        → number < known }
 {}
 
 /// Which pushes are refused, and which are accepted.
 pub fn pushes_have_their_causes()
     // Refused, it has the cause that its reply names, and the history stays.
-    ensures refused { (told : Bool) (reading : Reading) (moment : ℕ) (before after : At) (why : Refusal)
+    ensures refused { (told : Bool) (reading : Reading) (moment : ℕ) (before after : At)
+        (why : Refusal)
         → IsAnswered told (Ok (Push reading moment)) before (Refused why) after
         → HasPushCause why (length reading.batch.spans) before after
         × (history_of after ≡ history_of before) }
     // Accepted, it had room in a store that writes, and the reply says how many came before it.
-    ensures accepted { (told : Bool) (reading : Reading) (moment : ℕ) (before after : At) (number kept rejected skipped : ℕ)
-        → IsAnswered told (Ok (Push reading moment)) before (Pushed number kept rejected skipped) after
-        → HasRoomForPush (length reading.batch.spans) before.machine × (number ≡ count_of (history_of before)) }
+    ensures accepted { (told : Bool) (reading : Reading) (moment : ℕ) (before after : At)
+        (number kept rejected skipped : ℕ)
+        → IsAnswered told (Ok (Push reading moment)) before
+        (Pushed number kept rejected skipped) after
+        → HasRoomForPush (length reading.batch.spans) before.machine
+        × (number ≡ count_of (history_of before)) }
 {}
 
 /// What is stored, by the entries that were accepted. A run that is stopped is one over a disk of which from some call
@@ -152,18 +174,22 @@ pub fn accepted_pushes_are_stored()
     ensures returned { (told : Bool) (o : Outcome) (image : Image)
         → Session told o.first o.items o.replies o.last
         → StandsForLast o image
-        → MayStandFor (grown (history_of o.first) (accepted_entries o.items o.replies)) (unsure_of_run o) image }
+        → MayStandFor (grown (history_of o.first) (accepted_entries o.items o.replies))
+        (unsure_of_run o) image }
     // One since the store was opened: the same with the first few of these entries.
     ensures at_any_moment { (told : Bool) (o : Outcome) (image : Image)
         → Session told o.first o.items o.replies o.last
         → StandsWithin o image
-        → ((n : ℕ) × ImageStandsFor image (grown (history_of o.first) (take n (accepted_entries o.items o.replies))))
-        ⊎ MayStandFor (grown (history_of o.first) (accepted_entries o.items o.replies)) (unsure_of_run o) image }
+        → ((n : ℕ) × ImageStandsFor image
+        (grown (history_of o.first) (take n (accepted_entries o.items o.replies))))
+        ⊎ MayStandFor (grown (history_of o.first) (accepted_entries o.items o.replies))
+        (unsure_of_run o) image }
 {}
 
 /// Of the histories that an image stands for one is a base alone, in which each span stands once.
 pub fn what_is_stored_is_a_base()
-    ensures { (image : Image) (h : History) → ImageStandsFor image h → (base : List Row) × IsFirstOf base base
+    ensures { (image : Image) (h : History) → ImageStandsFor image h
+        → (base : List Row) × IsFirstOf base base
         × ImageStandsFor image (record { base = base; start = count_of h; entries = [] }) }
 {}
 
@@ -171,11 +197,13 @@ pub fn what_is_stored_is_a_base()
 /// end.
 pub fn comes_to_an_end()
     // It answers all that it was asked.
-    ensures ends { (told : Bool) (words : List (List ℕ)) (c : Command) (o : Outcome) (old new : Edges) → Spells words c
+    ensures ends { (told : Bool) (words : List (List ℕ)) (c : Command) (o : Outcome)
+        (old new : Edges) → Spells words c
         → IsRunOf told words o old new → GoesWell c old new → ComesToItsEnd o.ending }
     // And where nothing was refused in reading, the store had room, and what its blocks hold is told, nothing is
     // refused but for memory.
-    ensures well { (words : List (List ℕ)) (c : Command) (o : Outcome) (old new : Edges) → Spells words c
+    ensures well { (words : List (List ℕ)) (c : Command) (o : Outcome) (old new : Edges)
+        → Spells words c
         → IsRunOf true words o old new → GoesWell c old new
         → (before : List ℕ) → old.taken ≡ Some before → list_any is_refused o.items ≡ false
         → HasRoomFor o.items o.first.machine → (o.ending ≡ Answered) ⊎ (o.ending ≡ Starved) }
@@ -183,56 +211,67 @@ pub fn comes_to_an_end()
 
 /// What an ingest asks is asked and answered as in a session, so all that is said of sessions is said of it.
 pub fn an_ingest_is_a_session()
-    ensures { (sure : Bool) (todo left : List Duty) (told to_tell : Option (List ℕ)) (items : List Item)
+    ensures { (sure : Bool) (todo left : List Duty) (told to_tell : Option (List ℕ))
+        (items : List Item)
         → (replies : List Reply) (first last : At)
-        → Ingests sure todo told first items replies last left to_tell → Session sure first items replies last }
+        → Ingests sure todo told first items replies last left to_tell
+        → Session sure first items replies last }
 {}
 
 /// An ingest that did all has cut and flushed at its end, has compacted until a compaction joined no blocks, and then
 /// emptied loose files.
 pub fn an_ingest_finishes()
-    ensures { (sure : Bool) (source : List (List ℕ)) (told to_tell : Option (List ℕ)) (items : List Item)
+    ensures { (sure : Bool) (source : List (List ℕ)) (told to_tell : Option (List ℕ))
+        (items : List Item)
         → (replies : List Reply) (first last : At)
-        → Ingests sure (duties source) told first items replies last [] to_tell → HasFinished items replies }
+        → Ingests sure (duties source) told first items replies last [] to_tell
+        → HasFinished items replies }
 {}
 
 /// What a flush makes of the store.
 pub fn flushes_have_their_causes()
     // The calls of a round make of the store what a flush does.
-    ensures by_calls { (calls : List Call) (round : Round) (before after : At) → IsFlushRound calls round
+    ensures by_calls { (calls : List Call) (round : Round) (before after : At)
+        → IsFlushRound calls round
         → CallsLead before calls after → IsFlushed before round after }
     // Refused, it has the cause that its reply names.
     ensures refused { (before after : At) (why : Cause) → IsClosed before.machine
         → IsFlushed before (IsRefused why) after → HasFlushCause why before after }
     // A flush of an empty head, in a store that writes, is answered just that.
-    ensures empty { (before after : At) (round : Round) → before.machine.read_only ≡ None → IsClosed before.machine
+    ensures empty { (before after : At) (round : Round) → before.machine.read_only ≡ None
+        → IsClosed before.machine
         → length before.machine.state.head ≡ 0 → IsFlushed before round after → round ≡ Nothing }
     // And where that is the answer, the head was empty, and the store is as it was.
     ensures nothing { (before after : At) → IsFlushed before Nothing after
         → (length before.machine.state.head ≡ 0) × IsStill before after }
     // A block that is listed holds the first occurrences of the rows that waited first, and the reply says how many
     // these are.
-    ensures listed { (before after : At) (blocks rows : ℕ) → IsFlushed before (Did blocks rows) after
+    ensures listed { (before after : At) (blocks rows : ℕ)
+        → IsFlushed before (Did blocks rows) after
         → HasListed before.machine blocks rows after.machine }
     // Without faults, in a store that writes and has file numbers left, it is done or memory ran out.
     ensures well { (before after : At) (round : Round) → (Rose before.faults after.faults → ⊥)
-        → before.machine.read_only ≡ None → IsClosed before.machine → before.machine.state.next_file < 4294967294
+        → before.machine.read_only ≡ None → IsClosed before.machine
+        → before.machine.state.next_file < 4294967294
         → IsFlushed before round after → IsDoneOrStarved round }
     // It leaves no job open in a store that writes, and the history as it was.
-    ensures kept { (before after : At) (round : Round) → IsClosed before.machine → IsFlushed before round after
+    ensures kept { (before after : At) (round : Round) → IsClosed before.machine
+        → IsFlushed before round after
         → IsClosed after.machine × (history_of after ≡ history_of before) }
 {}
 
 /// What a compaction makes of the store.
 pub fn compactions_have_their_causes()
     // The calls of a round make of the store what a compaction does.
-    ensures by_calls { (calls : List Call) (round : Round) (before after : At) → IsCompactRound calls round
+    ensures by_calls { (calls : List Call) (round : Round) (before after : At)
+        → IsCompactRound calls round
         → CallsLead before calls after → IsRound BeginCompact before round after }
     // Refused, it has the cause that its reply names.
     ensures refused { (told : Bool) (before after : At) (why : Cause) → IsClosed before.machine
         → IsCompacted told before (IsRefused why) after → HasCompactCause told why before after }
     // Where no two blocks of one level below 63 fit together, in a store that writes, that is just the answer.
-    ensures none_fit { (told : Bool) (before after : At) (round : Round) → before.machine.read_only ≡ None
+    ensures none_fit { (told : Bool) (before after : At) (round : Round)
+        → before.machine.read_only ≡ None
         → IsClosed before.machine → length (choice before.machine.state.blocks) ≡ 0
         → IsCompacted told before round after → round ≡ Nothing }
     // And where that is the answer, no two fitted, and the store is as it was.
@@ -241,24 +280,29 @@ pub fn compactions_have_their_causes()
     // It joins the blocks that the store chooses, and the reply says how many these are. The new block stands in their
     // place, and where what the blocks hold is known the reply says how many first occurrences their rows have.
     ensures joined { (told : Bool) (before after : At) (blocks rows : ℕ)
-        → IsCompacted told before (Did blocks rows) after → HasJoined told before.machine blocks rows after.machine }
+        → IsCompacted told before (Did blocks rows) after
+        → HasJoined told before.machine blocks rows after.machine }
     // Without faults, in a store that writes, has file numbers left and tells what its blocks hold, it is done or
     // memory was wanted.
     ensures well { (before after : At) (round : Round) → (Rose before.faults after.faults → ⊥)
-        → before.machine.read_only ≡ None → IsClosed before.machine → before.machine.state.next_file < 4294967294
+        → before.machine.read_only ≡ None → IsClosed before.machine
+        → before.machine.state.next_file < 4294967294
         → IsCompacted true before round after → IsDoneOrStarved round }
     // It leaves no job open in a store that writes, and the history as it was.
     ensures kept { (told : Bool) (before after : At) (round : Round) → IsClosed before.machine
-        → IsCompacted told before round after → IsClosed after.machine × (history_of after ≡ history_of before) }
+        → IsCompacted told before round after
+        → IsClosed after.machine × (history_of after ≡ history_of before) }
 {}
 
 /// Compactions one after another that each join blocks come to an end.
 pub fn compactions_come_to_an_end()
     // There are fewer than an ingest makes at most, so it makes one that joins none.
-    ensures bounded { (told : Bool) (items : List Item) (replies : List Reply) (first last : At) → AreJoined items replies
+    ensures bounded { (told : Bool) (items : List Item) (replies : List Reply) (first last : At)
+        → AreJoined items replies
         → Session told first items replies last → length items < most_rounds }
     // Each leaves fewer blocks.
-    ensures fewer { (told : Bool) (items : List Item) (replies : List Reply) (first last : At) → AreJoined items replies
+    ensures fewer { (told : Bool) (items : List Item) (replies : List Reply) (first last : At)
+        → AreJoined items replies
         → Session told first items replies last
         → length items + length last.machine.state.blocks ≤ length first.machine.state.blocks }
 {}
@@ -270,5 +314,6 @@ pub fn reclaims_have_their_causes()
         → IsAnswered told (Ok Reclaim) before (Refused why) after → HasWriteCause why before after }
     // Else the store writes, and the reply says how many loose files no pin named: these are loose no more.
     ensures emptied { (told : Bool) (before after : At) (files : ℕ)
-        → IsAnswered told (Ok Reclaim) before (Reclaimed files) after → HasEmptied before.machine files after.machine }
+        → IsAnswered told (Ok Reclaim) before (Reclaimed files) after
+        → HasEmptied before.machine files after.machine }
 {}

@@ -30,7 +30,8 @@ impl<D: Device> Core<D> {
         requires names { NamesJob job.out.file 0 info }
         requires block { IsTrue (D.tells self.now.disk) →
             IsBlockOf (bytes_of (D.held self.now.disk) job.out.file) info job.rows }
-        ensures { Did D.Device.own self.old (CommitFlush job.out.number info.rows) (write_reply result) self.new }
+        ensures { Did D.Device.own self.old (CommitFlush job.out.number info.rows)
+            (write_reply result) self.new }
     {
         if let Some(faults) = self.state.read_only {
             return Err(WriteError::ReadOnly { faults });
@@ -54,7 +55,12 @@ impl<D: Device> Core<D> {
 
     /// A write failed: from now on the store is read-only, with the disk's count of faults.
     pub(crate) fn stop_writing(&mut self)
-        ensures { self.new ≡ record self.old { state = record self.old.state { read_only = Some (D.faults self.old.disk) } } }
+        ensures { self.new ≡ record self.old {
+          state = record self.old.state {
+            read_only = Some
+                (D.faults self.old.disk);
+          };
+        } }
     {
         let faults = self.disk.faults();
         self.state.read_only = Some(faults);
