@@ -18,7 +18,10 @@ for name in $deps; do grep "^$name[: ]" "$here/../crates.txt" || true; done > "$
 echo "seat_bench: $deps" >> "$work/tree/crates.txt"
 cp "$here/../HANDLES" "$work/tree/HANDLES"
 cmp -s "$here/seats/program.txt" "$program/src/main.rt" || cp "$here/seats/program.txt" "$program/src/main.rt"
-cp -r "$here/seats/proofs/." "$program/proofs/"
+find "$here/seats/proofs" -name '*.txt' -printf '%P\n' | while IFS= read -r file; do # rt ci takes no .antt file outside of a crate
+    mkdir -p "$program/proofs/$(dirname "$file")"
+    cp "$here/seats/proofs/$file" "$program/proofs/${file%.txt}.antt"
+done
 for name in Crossing Looks SeatHolds; do # lemmas of the tests, under this program's name
     sed 's/shared_tests/seat_bench/g' "$here/../crates/shared_tests/proofs/$name.antt" > "$program/proofs/$name.antt"
 done
