@@ -14,7 +14,7 @@ for name in $deps; do # copies of what it stands on, with what is built
     rm -rf "$work/tree/crates/$name"
     tar -C "$here/../crates" --exclude=incremental -cf - "$name" | tar -C "$work/tree/crates" -xf -
 done
-for name in $deps; do grep "^$name[: ]" "$here/../crates.txt" || true; done > "$work/tree/crates.txt"
+for name in $deps; do grep "^${name}[: ]" "$here/../crates.txt" || true; done > "$work/tree/crates.txt"
 echo "seat_bench: $deps" >> "$work/tree/crates.txt"
 cp "$here/../HANDLES" "$work/tree/HANDLES"
 cmp -s "$here/seats/program.txt" "$program/src/main.rt" || cp "$here/seats/program.txt" "$program/src/main.rt"
