@@ -7,7 +7,7 @@ import sys
 import time
 
 # A disk in memory keeps what each call made of it, so many pushes take longer each.
-CALLS = {"h": ("held", 1_000_000), "p": ("a push", 4_000), "r": ("a page read", 100_000)}
+CALLS = {"h": ("held", 200_000), "p": ("a push", 4_000), "r": ("a page read", 100_000)}
 THREADS = [1, 2, 4, 8]
 
 
