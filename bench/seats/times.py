@@ -44,10 +44,10 @@ def main():
         for threads in THREADS:
             wall, used = each(program, rounds, letter, threads, calls)
             print(f"  {threads} seats: {wall:.3f} (processor {used:.3f}), the turn adds {wall - core:.3f} (processor {used - spent:.3f})")
-    # Nine threads: one makes eight pushes of 16,384 spans, and eight ask a few times meanwhile, so they mostly wait.
+    # Nine threads: one makes eight pushes of 16,384 spans, and eight ask a few times, which may be before the first push.
     alone, spent = least(program, rounds, "b", 0, 8)
     wall, used = least(program, rounds, "h", 9, 8)
-    print(f"eight large pushes: {alone:.3f} s (processor {spent:.3f} s); beside eight threads that wait {wall:.3f} s (processor {used:.3f} s)")
+    print(f"eight large pushes: {alone:.3f} s (processor {spent:.3f} s); beside eight threads that ask {wall:.3f} s (processor {used:.3f} s)")
 
 
 main()
