@@ -29,7 +29,8 @@ pub fn column<K: Kind>(
     kind: &K,
     count: u64,
 ) -> Result<Vec<K::Item>, Break>
-    ensures { Finds (λ x. x.items) result fields.new (column_at (K.reading kind.now) count fields.old) }
+    ensures { Finds (λ x. x.items) result fields.new
+        (column_at (K.reading kind.now) count fields.old) }
 {
     let mut values = Vec::new(alloc);
     for _ in 0..count {
@@ -42,7 +43,8 @@ pub fn column<K: Kind>(
 /// A count, and so many values.
 #[tactic(auto, unfolding(crate::specs::ColumnReadings::counted_at))]
 pub fn counted<K: Kind>(alloc: Global, fields: &mut Fields, kind: &K) -> Result<Vec<K::Item>, Break>
-    ensures { Finds (λ x. x.items) result fields.new (counted_at (λ _. K.reading kind.now) fields.old) }
+    ensures { Finds (λ x. x.items) result fields.new
+        (counted_at (λ _. K.reading kind.now) fields.old) }
 {
     let count = fields.number()?;
     column(alloc, fields, kind, count)

@@ -84,7 +84,8 @@ impl<'a> Fields<'a> {
     /// A byte.
     #[tactic(auto, using(crate::proofs::ReadingSteps::finds_field))]
     pub fn byte(&mut self) -> Result<u8, Break>
-        ensures { Finds (λ x. x) result self.new (field (λ within. in_part within byte_at) self.old) }
+        ensures { Finds (λ x. x) result self.new
+            (field (λ within. in_part within byte_at) self.old) }
     {
         span_fields::byte(&mut self.reader, self.within)
     }
@@ -92,7 +93,8 @@ impl<'a> Fields<'a> {
     /// A moment.
     #[tactic(auto, using(crate::proofs::ReadingSteps::finds_field))]
     pub fn moment(&mut self) -> Result<u64, Break>
-        ensures { Finds (λ x. x) result self.new (field (λ within. in_part within fixed64_at) self.old) }
+        ensures { Finds (λ x. x) result self.new
+            (field (λ within. in_part within fixed64_at) self.old) }
     {
         span_fields::fixed64(&mut self.reader, self.within)
     }
@@ -100,7 +102,8 @@ impl<'a> Fields<'a> {
     /// A text in full.
     #[tactic(auto, using(crate::proofs::ReadingSteps::finds_field))]
     pub fn text(&mut self) -> Result<Text, Break>
-        ensures { Finds (λ x. x) result self.new (field (λ within. in_part within text_at) self.old) }
+        ensures { Finds (λ x. x) result self.new
+            (field (λ within. in_part within text_at) self.old) }
     {
         span_fields::text(&mut self.reader, self.within)
     }

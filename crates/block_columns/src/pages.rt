@@ -52,8 +52,10 @@ impl Guesses {
 
 /// Whether the value has this number.
 fn is_at<'a, T: Eq + Hash>(values: &IndexSet<&'a T>, number: usize, value: &'a T) -> bool
-    ensures number { result ≡ true → insert_index (λ a b. T.eq a.now b.now) values.now value.entry ≡ number }
-    ensures there { result ≡ true → contains (λ a b. T.eq a.now b.now) values.now value.entry ≡ true }
+    ensures number { result ≡ true
+        → insert_index (λ a b. T.eq a.now b.now) values.now value.entry ≡ number }
+    ensures there { result ≡ true
+        → contains (λ a b. T.eq a.now b.now) values.now value.entry ≡ true }
 {
     let _ = values.len();
     let Some(there) = values.get_index(number) else {
@@ -68,8 +70,10 @@ fn number_of<'a, T: Eq + Hash>(
     guess: usize,
     value: &'a T,
 ) -> Result<usize, Memory>
-    ensures number { IfOk result (λ n. n ≡ insert_index (λ a b. T.eq a.now b.now) values.old value.entry) }
-    ensures keys { OnOk result (values.new.keys ≡ insert_key (λ a b. T.eq a.now b.now) values.old.keys value.entry) }
+    ensures number { IfOk result
+        (λ n. n ≡ insert_index (λ a b. T.eq a.now b.now) values.old value.entry) }
+    ensures keys { OnOk result
+        (values.new.keys ≡ insert_key (λ a b. T.eq a.now b.now) values.old.keys value.entry) }
 {
     if is_at(values, guess, value) {
         return Ok(guess);
@@ -197,7 +201,8 @@ pub fn put_column<'a, T: Eq + Hash, A, P: Put<T, A>>(
     kind: &P,
     values: &'a [A],
 ) -> Result<(), Memory>
-    ensures written { OnOk result (page.new ≡ wrote (column (P.encoding kind.now)) values.now page.old) }
+    ensures written { OnOk result
+        (page.new ≡ wrote (column (P.encoding kind.now)) values.now page.old) }
     ensures sound { OnOk result (All (P.promise kind.now) values.now) }
 {
     for value in values {
@@ -213,7 +218,8 @@ pub fn put_counted<'a, T: Eq + Hash, A, P: Put<T, A>>(
     kind: &P,
     values: &'a [A],
 ) -> Result<(), Memory>
-    ensures written { OnOk result (page.new ≡ wrote (counted (P.encoding kind.now)) values.now page.old) }
+    ensures written { OnOk result
+        (page.new ≡ wrote (counted (P.encoding kind.now)) values.now page.old) }
     ensures sound { OnOk result (AreSound (P.promise kind.now) values.now) }
 {
     page.number(count(values))?;
@@ -233,7 +239,8 @@ pub fn put_table<'a, 'b, T: Eq + Hash, A: Eq + Hash, P: Put<T, A> + Drop>(
     kind: P,
     table: &'a IndexSet<&'b A>,
 ) -> Result<(), Memory>
-    ensures written { OnOk result (page.new ≡ wrote (counted (P.encoding kind)) (map (λ k. k.now) table.now.keys) page.old) }
+    ensures written { OnOk result
+        (page.new ≡ wrote (counted (P.encoding kind)) (map (λ k. k.now) table.now.keys) page.old) }
     ensures sound { OnOk result (AreSound (P.promise kind) (map (λ k. k.now) table.now.keys)) }
 {
     put_counted(page, &Borrowed { kind }, table.as_slice())?;

@@ -20,7 +20,8 @@ pub fn table<T: Eq + Hash + Drop, K: Kind<Item = T>>(
     fields: &mut Fields,
     kind: &K,
 ) -> Result<IndexSet<T>, Break>
-    ensures { Finds (λ x. x.keys) result fields.new (table_at T.eq (K.reading kind.now) fields.old) }
+    ensures { Finds (λ x. x.keys) result fields.new
+        (table_at T.eq (K.reading kind.now) fields.old) }
 {
     let count = fields.number()?;
     each_new(alloc, fields, kind, count)
@@ -32,7 +33,8 @@ fn each_new<T: Eq + Hash + Drop, K: Kind<Item = T>>(
     kind: &K,
     count: u64,
 ) -> Result<IndexSet<T>, Break>
-    ensures { Finds (λ x. x.keys) result fields.new (items_at (new_at T.eq (K.reading kind.now)) count [] fields.old) }
+    ensures { Finds (λ x. x.keys) result fields.new
+        (items_at (new_at T.eq (K.reading kind.now)) count [] fields.old) }
 {
     let mut table = IndexSet::new(alloc);
     for _ in 0..count {

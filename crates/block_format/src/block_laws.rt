@@ -18,7 +18,8 @@ pub fn one_block()
 /// One information describes the bytes of a block, but for the file and the level, which stand elsewhere.
 pub fn one_info()
     ensures { (bytes : List ℕ) (rows others : List Row) (info other : InfoParts)
-        → BlockHasInfo info bytes rows → BlockHasInfo other bytes others → AreOfOneFile info other → info ≡ other }
+        → BlockHasInfo info bytes rows → BlockHasInfo other bytes others → AreOfOneFile info other
+        → info ≡ other }
 {}
 
 /// No bytes are a block without rows.

@@ -12,7 +12,8 @@ ghost use Rattle.block_format.specs.declared.header.Header.{Header};
 
 /// What the bytes of a header stand for is what reading gives.
 pub fn held_header_is_read()
-    ensures { (bytes : List ℕ) (header : Header) → HeaderHolds bytes header → header_at bytes ≡ Ok header }
+    ensures { (bytes : List ℕ) (header : Header) → HeaderHolds bytes header
+        → header_at bytes ≡ Ok header }
 {}
 
 /// What is read of bytes is the header that they stand for: bytes that are accepted are such as `write_header` gives.

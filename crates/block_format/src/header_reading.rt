@@ -155,7 +155,8 @@ fn counts(reader: &mut Reader) -> Result<Front, Break>
 #[tactic(auto, unfolding(crate::specs::HeaderReadings::passing))]
 fn stripe_pages(reader: &mut Reader, page: u64) -> Result<u64, Break>
     requires { page ≤ 2 ^ 51 }
-    ensures gives { Gives (λ x. x) result reader.new (passing (is_in_reach page) number64_at reader.old) }
+    ensures gives { Gives (λ x. x) result reader.new
+        (passing (is_in_reach page) number64_at reader.old) }
     ensures whole { reader.new.whole ≡ reader.old.whole }
     ensures reach { IfOk result (λ pages. page + pages ≤ 2 ^ 51) }
 {
@@ -170,7 +171,8 @@ fn stripe_pages(reader: &mut Reader, page: u64) -> Result<u64, Break>
 /// How many rows a stripe has: 256, but for the last one, which may have fewer.
 #[tactic(auto, unfolding(crate::specs::HeaderReadings::passing))]
 fn stripe_rows(reader: &mut Reader, is_last: bool) -> Result<u32, Break>
-    ensures gives { Gives (λ x. x) result reader.new (passing (has_rows is_last) number64_at reader.old) }
+    ensures gives { Gives (λ x. x) result reader.new
+        (passing (has_rows is_last) number64_at reader.old) }
     ensures whole { reader.new.whole ≡ reader.old.whole }
 {
     let at = reader.at();

@@ -17,8 +17,10 @@ pub fn filters_hold_their_traces()
     ensures held { (ids : List TraceId) → HoldsTraces ids }
     // A bit is set exactly where one of the traces has it.
     ensures exact { (ids : List TraceId) (bit : ℕ) → bit < 32768 * filter_pages (length ids)
-        → is_set (bloom_bytes ids) bit ≡ list_any (λ id. has_bit (filter_pages (length ids)) id bit) ids }
-    ensures size { (ids : List TraceId) → length (bloom_bytes ids) ≡ 4096 * filter_pages (length ids) }
+        → is_set (bloom_bytes ids) bit
+        ≡ list_any (λ id. has_bit (filter_pages (length ids)) id bit) ids }
+    ensures size { (ids : List TraceId)
+        → length (bloom_bytes ids) ≡ 4096 * filter_pages (length ids) }
 {}
 
 /// Where the ids of the rows ascend, each page of the index says where a trace of the rows is.
@@ -29,5 +31,6 @@ pub fn pages_find_their_traces()
 /// Where the ids of the rows ascend, each entry of the index tells its trace's rows: the number of the first, and how
 /// many there are. They stand together, so these are all of them.
 pub fn entries_tell_rows()
-    ensures { (ids : List TraceId) (entry : IndexEntry) → AreAscending ids → Contains (entries ids) entry → TellsRows ids entry }
+    ensures { (ids : List TraceId) (entry : IndexEntry) → AreAscending ids
+        → Contains (entries ids) entry → TellsRows ids entry }
 {}

@@ -18,13 +18,17 @@ use span_types::Failed;
 /// that counted before.
 pub fn lay<D: Device>(disk: &mut D, list: &PreparedList) -> Result<(), Failed>
     // A crash at any moment leaves the old list, and every file but this slot as it might have left it before.
-    ensures any_moment { IsTrue (D.tells disk.old) → CanLay (D.held disk.old) (D.may_leave disk.old) list.now
-        → (old : Option ListBody) → ImageHoldsList (D.held disk.old) old → IsNext list.now.generation old
+    ensures any_moment { IsTrue (D.tells disk.old)
+        → CanLay (D.held disk.old) (D.may_leave disk.old) list.now
+        → (old : Option ListBody) → ImageHoldsList (D.held disk.old) old
+        → IsNext list.now.generation old
         → Run (WritesSlot (slot_of list.now) (λ image. ImageHoldsList image old))
         D.moment D.left_since D.may_leave disk.old disk.new }
     ensures in_place { IsTrue (D.tells disk.old) → OnOk result (OnlyBytes (slot_of list.now)
-        (laid list.now.text (bytes_of (D.held disk.old) (slot_of list.now))) (D.may_leave disk.new)) }
-    ensures besides { IsTrue (D.tells disk.old) → Besides (slot_of list.now) (D.held disk.old) (D.held disk.new) }
+        (laid list.now.text (bytes_of (D.held disk.old) (slot_of list.now)))
+        (D.may_leave disk.new)) }
+    ensures besides { IsTrue (D.tells disk.old)
+        → Besides (slot_of list.now) (D.held disk.old) (D.held disk.new) }
 
     ensures counted { Calls D.Device.own 4 (1 + length list.now.text) disk.old disk.new result }
 {
@@ -39,21 +43,28 @@ pub fn lay<D: Device>(disk: &mut D, list: &PreparedList) -> Result<(), Failed>
 pub fn open_gate<D: Device>(disk: &mut D, list: &PreparedList) -> Result<(), Failed>
     // A crash at any moment leaves the old list or the new one, and every file but this slot as it might have left it
     // before.
-    ensures any_moment { IsTrue (D.tells disk.old) → CanOpen (D.held disk.old) (D.may_leave disk.old) list.now
+    ensures any_moment { IsTrue (D.tells disk.old)
+        → CanOpen (D.held disk.old) (D.may_leave disk.old) list.now
         → (old : Option ListBody) (new : ListBody)
-        → ImageHoldsList (D.held disk.old) old → IsNext list.now.generation old → IsListText list.now new
+        → ImageHoldsList (D.held disk.old) old → IsNext list.now.generation old
+        → IsListText list.now new
         → Run (WritesSlot (slot_of list.now) (ImageHoldsEither old new))
         D.moment D.left_since D.may_leave disk.old disk.new }
 
     // At `Ok` every image stands for the new list, and each slot has one image, which is what a read gives.
-    ensures counts { IsTrue (D.tells disk.old) → CanOpen (D.held disk.old) (D.may_leave disk.old) list.now
+    ensures counts { IsTrue (D.tells disk.old)
+        → CanOpen (D.held disk.old) (D.may_leave disk.old) list.now
         → (new : ListBody) → IsListText list.now new
-        → OnOk result ((image : Image) → D.may_leave disk.new image → ImageHoldsList image (Some new)) }
-    ensures slot_0 { IsTrue (D.tells disk.old) → CanOpen (D.held disk.old) (D.may_leave disk.old) list.now
+        → OnOk result ((image : Image) → D.may_leave disk.new image
+        → ImageHoldsList image (Some new)) }
+    ensures slot_0 { IsTrue (D.tells disk.old)
+        → CanOpen (D.held disk.old) (D.may_leave disk.old) list.now
         → OnOk result (OnlyBytes 0 (bytes_of (D.held disk.new) 0) (D.may_leave disk.new)) }
-    ensures slot_1 { IsTrue (D.tells disk.old) → CanOpen (D.held disk.old) (D.may_leave disk.old) list.now
+    ensures slot_1 { IsTrue (D.tells disk.old)
+        → CanOpen (D.held disk.old) (D.may_leave disk.old) list.now
         → OnOk result (OnlyBytes 1 (bytes_of (D.held disk.new) 1) (D.may_leave disk.new)) }
-    ensures besides { IsTrue (D.tells disk.old) → Besides (slot_of list.now) (D.held disk.old) (D.held disk.new) }
+    ensures besides { IsTrue (D.tells disk.old)
+        → Besides (slot_of list.now) (D.held disk.old) (D.held disk.new) }
 
     ensures counted { Calls D.Device.own 2 1 disk.old disk.new result }
 {
@@ -66,26 +77,34 @@ pub fn open_gate<D: Device>(disk: &mut D, list: &PreparedList) -> Result<(), Fai
 pub fn commit<D: Device>(disk: &mut D, list: &PreparedList) -> Result<(), Failed>
     // A crash at any moment leaves the old list or the new one, and every file but this slot as it might have left it
     // before.
-    ensures any_moment { IsTrue (D.tells disk.old) → CanLay (D.held disk.old) (D.may_leave disk.old) list.now
+    ensures any_moment { IsTrue (D.tells disk.old)
+        → CanLay (D.held disk.old) (D.may_leave disk.old) list.now
         → (old : Option ListBody) (new : ListBody)
-        → ImageHoldsList (D.held disk.old) old → IsNext list.now.generation old → IsListText list.now new
+        → ImageHoldsList (D.held disk.old) old → IsNext list.now.generation old
+        → IsListText list.now new
         → Run (WritesSlot (slot_of list.now) (ImageHoldsEither old new))
         D.moment D.left_since D.may_leave disk.old disk.new }
 
     // At `Ok` every image stands for the new list, and each slot has one image, which is what a read gives.
-    ensures counts { IsTrue (D.tells disk.old) → CanLay (D.held disk.old) (D.may_leave disk.old) list.now
+    ensures counts { IsTrue (D.tells disk.old)
+        → CanLay (D.held disk.old) (D.may_leave disk.old) list.now
         → (new : ListBody) → IsListText list.now new
-        → OnOk result ((image : Image) → D.may_leave disk.new image → ImageHoldsList image (Some new)) }
-    ensures slot_0 { IsTrue (D.tells disk.old) → CanLay (D.held disk.old) (D.may_leave disk.old) list.now
+        → OnOk result ((image : Image) → D.may_leave disk.new image
+        → ImageHoldsList image (Some new)) }
+    ensures slot_0 { IsTrue (D.tells disk.old)
+        → CanLay (D.held disk.old) (D.may_leave disk.old) list.now
         → OnOk result (OnlyBytes 0 (bytes_of (D.held disk.new) 0) (D.may_leave disk.new)) }
-    ensures slot_1 { IsTrue (D.tells disk.old) → CanLay (D.held disk.old) (D.may_leave disk.old) list.now
+    ensures slot_1 { IsTrue (D.tells disk.old)
+        → CanLay (D.held disk.old) (D.may_leave disk.old) list.now
         → OnOk result (OnlyBytes 1 (bytes_of (D.held disk.new) 1) (D.may_leave disk.new)) }
     // After a load, or another commit, the next list may then be laid.
-    ensures ready { IsTrue (D.tells disk.old) → CanLay (D.held disk.old) (D.may_leave disk.old) list.now
+    ensures ready { IsTrue (D.tells disk.old)
+        → CanLay (D.held disk.old) (D.may_leave disk.old) list.now
         → (old : Option ListBody) (new : ListBody)
         → IsReady (D.held disk.old) (D.may_leave disk.old) old → IsListText list.now new
         → OnOk result (IsReady (D.held disk.new) (D.may_leave disk.new) (Some new)) }
-    ensures besides { IsTrue (D.tells disk.old) → Besides (slot_of list.now) (D.held disk.old) (D.held disk.new) }
+    ensures besides { IsTrue (D.tells disk.old)
+        → Besides (slot_of list.now) (D.held disk.old) (D.held disk.new) }
 
     ensures counted { Calls D.Device.own 6 (1 + length list.now.text) disk.old disk.new result }
 {

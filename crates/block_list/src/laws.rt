@@ -26,18 +26,22 @@ pub fn next_may_be_laid<D: Device>(disk: &D)
 /// The slots stay ready over a change of a file that is no slot, and over calls that change nothing.
 pub fn stays_ready<D: Device>(_disk: &D)
     ensures change { (old new : D) (file : ℕ) (list : Option ListBody) → 2 ≤ file
-        → Besides file (D.held old) (D.held new) → Follows (Besides file) (D.may_leave old) (D.may_leave new)
-        → IsReady (D.held old) (D.may_leave old) list → IsReady (D.held new) (D.may_leave new) list }
+        → Besides file (D.held old) (D.held new)
+        → Follows (Besides file) (D.may_leave old) (D.may_leave new)
+        → IsReady (D.held old) (D.may_leave old) list
+        → IsReady (D.held new) (D.may_leave new) list }
     ensures quiet { (old new : D) (list : Option ListBody)
         → SameBytes (D.held old) (D.held new) → Within (D.may_leave old) (D.may_leave new)
-        → IsReady (D.held old) (D.may_leave old) list → IsReady (D.held new) (D.may_leave new) list }
+        → IsReady (D.held old) (D.may_leave old) list
+        → IsReady (D.held new) (D.may_leave new) list }
 {}
 
 /// What two slots hold is what reading gives, so they hold one list; and that list meets the rules.
 pub fn held_list_is_read()
     ensures read { (first second : List ℕ) (list : Option ListBody) → SlotsHold 0 first second list
         → slots_at first second ≡ Ok list }
-    ensures one { (first second : List ℕ) (list other : Option ListBody) → SlotsHold 0 first second list
+    ensures one { (first second : List ℕ) (list other : Option ListBody)
+        → SlotsHold 0 first second list
         → SlotsHold 0 first second other → list ≡ other }
     ensures rules { (first second : List ℕ) (body : ListBody) → SlotsHold 0 first second (Some body)
         → MeetsRules body }

@@ -27,27 +27,38 @@ use std::alloc::Global;
 /// it was. At a fault too a slot that isn't vacant stays as it was, also a malformed one.
 pub fn load<D: Device>(alloc: Global, disk: &mut D) -> Result<Option<ListBody>, ListError>
     // What the slots say, and where they break, is by the bytes that the disk held.
-    ensures found { IsTrue (D.tells disk.old) → IfOk result (λ list. slots_at (bytes_of (D.held disk.old) 0) (bytes_of (D.held disk.old) 1) ≡ Ok list) }
-    ensures list { IsTrue (D.tells disk.old) → IfOk result (λ list. ImageHoldsList (D.held disk.old) list) }
-    ensures not_list { IsTrue (D.tells disk.old) → (slot at : ℕ) → result ≡ Err (NotList slot at) → slots_at (bytes_of (D.held disk.old) 0) (bytes_of (D.held disk.old) 1) ≡ Err (slot, at) }
+    ensures found { IsTrue (D.tells disk.old)
+        → IfOk result (λ list.
+        slots_at (bytes_of (D.held disk.old) 0) (bytes_of (D.held disk.old) 1) ≡ Ok list) }
+    ensures list { IsTrue (D.tells disk.old)
+        → IfOk result (λ list. ImageHoldsList (D.held disk.old) list) }
+    ensures not_list { IsTrue (D.tells disk.old) → (slot at : ℕ) → result ≡ Err (NotList slot at)
+        → slots_at (bytes_of (D.held disk.old) 0) (bytes_of (D.held disk.old) 1) ≡ Err (slot, at) }
 
     // A list meets the rules, whatever the disk shows.
     ensures rules { (body : ListBody) → result ≡ Ok (Some body) → MeetsRules body }
 
     // Slots that stand for a list, or for none, are read as just that.
-    ensures only { IsTrue (D.tells disk.old) → (list : Option ListBody) → ImageHoldsList (D.held disk.old) list → IfOk result (λ found. found ≡ list) }
-    ensures readable { IsTrue (D.tells disk.old) → (list : Option ListBody) (slot at : ℕ) → ImageHoldsList (D.held disk.old) list → result ≢ Err (NotList slot at) }
+    ensures only { IsTrue (D.tells disk.old) → (list : Option ListBody)
+        → ImageHoldsList (D.held disk.old) list → IfOk result (λ found. found ≡ list) }
+    ensures readable { IsTrue (D.tells disk.old) → (list : Option ListBody) (slot at : ℕ)
+        → ImageHoldsList (D.held disk.old) list → result ≢ Err (NotList slot at) }
 
     // A crash at any moment leaves what stands for what some image stood for at the start, with every other file, and
     // with each slot that wasn't vacant there, be it malformed.
-    ensures kept { IsTrue (D.tells disk.old) → Run KeepsList D.moment D.left_since D.may_leave disk.old disk.new }
+    ensures kept { IsTrue (D.tells disk.old)
+        → Run KeepsList D.moment D.left_since D.may_leave disk.old disk.new }
 
     // At `Ok` the disk still stands for the list, each slot has one image, which is what a read gives, and the next
     // list may be laid.
-    ensures ready { IsTrue (D.tells disk.old) → IfOk result (λ list. IsReady (D.held disk.new) (D.may_leave disk.new) list) }
-    ensures cleared_0 { IsTrue (D.tells disk.old) → OnOk result (bytes_of (D.held disk.new) 0 ≡ cleared (bytes_of (D.held disk.old) 0)) }
-    ensures cleared_1 { IsTrue (D.tells disk.old) → OnOk result (bytes_of (D.held disk.new) 1 ≡ cleared (bytes_of (D.held disk.old) 1)) }
-    ensures others { IsTrue (D.tells disk.old) → (file : ℕ) → 2 ≤ file → bytes_of (D.held disk.new) file ≡ bytes_of (D.held disk.old) file }
+    ensures ready { IsTrue (D.tells disk.old)
+        → IfOk result (λ list. IsReady (D.held disk.new) (D.may_leave disk.new) list) }
+    ensures cleared_0 { IsTrue (D.tells disk.old)
+        → OnOk result (bytes_of (D.held disk.new) 0 ≡ cleared (bytes_of (D.held disk.old) 0)) }
+    ensures cleared_1 { IsTrue (D.tells disk.old)
+        → OnOk result (bytes_of (D.held disk.new) 1 ≡ cleared (bytes_of (D.held disk.old) 1)) }
+    ensures others { IsTrue (D.tells disk.old) → (file : ℕ) → 2 ≤ file
+        → bytes_of (D.held disk.new) file ≡ bytes_of (D.held disk.old) file }
 
     // Whatever the answer, a fault too, a read gives of a slot that isn't vacant what it gave before.
     ensures slots { IsTrue (D.tells disk.old) → (slot : ℕ) → slot < 2
@@ -131,8 +142,10 @@ fn newer_of(first: Option<ListBody>, second: Option<ListBody>) -> Option<ListBod
 
 /// Syncs both slots: a crash leaves of them what a read gives.
 fn sync_slots<D: Device>(disk: &mut D) -> Result<(), Failed>
-    ensures slot_0 { IsTrue (D.tells disk.old) → OnOk result (OnlyBytes 0 (bytes_of (D.held disk.new) 0) (D.may_leave disk.new)) }
-    ensures slot_1 { IsTrue (D.tells disk.old) → OnOk result (OnlyBytes 1 (bytes_of (D.held disk.new) 1) (D.may_leave disk.new)) }
+    ensures slot_0 { IsTrue (D.tells disk.old)
+        → OnOk result (OnlyBytes 0 (bytes_of (D.held disk.new) 0) (D.may_leave disk.new)) }
+    ensures slot_1 { IsTrue (D.tells disk.old)
+        → OnOk result (OnlyBytes 1 (bytes_of (D.held disk.new) 1) (D.may_leave disk.new)) }
     ensures untouched { Untouched D.tells D.held D.may_leave D.moment D.left_since disk.old disk.new }
     ensures counted { Calls D.Device.own 2 0 disk.old disk.new result }
 {
@@ -145,7 +158,8 @@ const HEAD: usize = 30;
 
 /// The bytes of a slot that count. Of a file that is longer than its list no more is read, however long it is.
 fn read_counting<D: Device>(alloc: Global, disk: &mut D, file: u32) -> Result<Vec<u8>, ListError>
-    ensures bytes { IsTrue (D.tells disk.old) → IfOk result (λ bytes. bytes.items ≡ counting (bytes_of (D.held disk.old) file)) }
+    ensures bytes { IsTrue (D.tells disk.old)
+        → IfOk result (λ bytes. bytes.items ≡ counting (bytes_of (D.held disk.old) file)) }
     ensures untouched { Untouched D.tells D.held D.may_leave D.moment D.left_since disk.old disk.new }
     ensures counted { CountsFault D.Device.own 0 Fault disk.old disk.new result }
     ensures errors { IfErr result (λ error. (error ≡ Fault) ⊎ (error ≡ Memory)) }
@@ -168,7 +182,8 @@ fn read_first<D: Device>(
     file: u32,
     count: usize,
 ) -> Result<Vec<u8>, ListError>
-    ensures bytes { IsTrue (D.tells disk.old) → IfOk result (λ bytes. bytes.items ≡ take count (bytes_of (D.held disk.old) file)) }
+    ensures bytes { IsTrue (D.tells disk.old)
+        → IfOk result (λ bytes. bytes.items ≡ take count (bytes_of (D.held disk.old) file)) }
     ensures few { IfOk result (λ bytes. length bytes.items ≤ count) }
     ensures untouched { Untouched D.tells D.held D.may_leave D.moment D.left_since disk.old disk.new }
     ensures counted { CountsFault D.Device.own 0 Fault disk.old disk.new result }
@@ -185,14 +200,23 @@ fn read_first<D: Device>(
 /// Cuts a vacant slot of 30 bytes or more to its first byte, and syncs it. These are its bytes that count.
 fn clear_vacant<D: Device>(disk: &mut D, slot: u32, bytes: &[u8]) -> Result<(), Failed>
     requires slot { slot < 2 }
-    requires only { IsTrue (D.tells disk.old) → OnlyBytes slot (bytes_of (D.held disk.old) slot) (D.may_leave disk.old) }
-    requires bytes { IsTrue (D.tells disk.old) → bytes.now ≡ counting (bytes_of (D.held disk.old) slot) }
-    ensures kept { IsTrue (D.tells disk.old) → Run KeepsList D.moment D.left_since D.may_leave disk.old disk.new }
-    ensures only { IsTrue (D.tells disk.old) → OnOk result (OnlyBytes slot (bytes_of (D.held disk.new) slot) (D.may_leave disk.new)) }
-    ensures cleared { IsTrue (D.tells disk.old) → OnOk result (bytes_of (D.held disk.new) slot ≡ cleared (bytes_of (D.held disk.old) slot)) }
-    ensures free { IsTrue (D.tells disk.old) → OnOk result (IsFree (bytes_of (D.held disk.new) slot)) }
+    requires only { IsTrue (D.tells disk.old)
+        → OnlyBytes slot (bytes_of (D.held disk.old) slot) (D.may_leave disk.old) }
+    requires bytes { IsTrue (D.tells disk.old)
+        → bytes.now ≡ counting (bytes_of (D.held disk.old) slot) }
+    ensures kept { IsTrue (D.tells disk.old)
+        → Run KeepsList D.moment D.left_since D.may_leave disk.old disk.new }
+    ensures only { IsTrue (D.tells disk.old)
+        → OnOk result (OnlyBytes slot (bytes_of (D.held disk.new) slot) (D.may_leave disk.new)) }
+    ensures cleared { IsTrue (D.tells disk.old)
+        → OnOk result (bytes_of (D.held disk.new) slot
+        ≡ cleared (bytes_of (D.held disk.old) slot)) }
+    ensures free { IsTrue (D.tells disk.old)
+        → OnOk result (IsFree (bytes_of (D.held disk.new) slot)) }
     ensures besides { IsTrue (D.tells disk.old) → Besides slot (D.held disk.old) (D.held disk.new) }
-    ensures other_images { (other : ℕ) (bytes : List ℕ) → other ≢ slot → OnlyBytes other bytes (D.may_leave disk.old) → OnlyBytes other bytes (D.may_leave disk.new) }
+    ensures other_images { (other : ℕ) (bytes : List ℕ) → other ≢ slot
+        → OnlyBytes other bytes (D.may_leave disk.old)
+        → OnlyBytes other bytes (D.may_leave disk.new) }
     ensures counted { Counts D.Device.own 0 (IsOk result) (IsErr result) disk.old disk.new }
 {
     if is_to_clear(bytes) {
@@ -203,10 +227,14 @@ fn clear_vacant<D: Device>(disk: &mut D, slot: u32, bytes: &[u8]) -> Result<(), 
 
 /// The bytes of both slots that count. The slots are synced first.
 fn read_both<D: Device>(alloc: Global, disk: &mut D) -> Result<(Vec<u8>, Vec<u8>), ListError>
-    ensures first { IsTrue (D.tells disk.old) → IfOk result (λ both. both.0.items ≡ counting (bytes_of (D.held disk.old) 0)) }
-    ensures second { IsTrue (D.tells disk.old) → IfOk result (λ both. both.1.items ≡ counting (bytes_of (D.held disk.old) 1)) }
-    ensures slot_0 { IsTrue (D.tells disk.old) → OnOk result (OnlyBytes 0 (bytes_of (D.held disk.old) 0) (D.may_leave disk.new)) }
-    ensures slot_1 { IsTrue (D.tells disk.old) → OnOk result (OnlyBytes 1 (bytes_of (D.held disk.old) 1) (D.may_leave disk.new)) }
+    ensures first { IsTrue (D.tells disk.old)
+        → IfOk result (λ both. both.0.items ≡ counting (bytes_of (D.held disk.old) 0)) }
+    ensures second { IsTrue (D.tells disk.old)
+        → IfOk result (λ both. both.1.items ≡ counting (bytes_of (D.held disk.old) 1)) }
+    ensures slot_0 { IsTrue (D.tells disk.old)
+        → OnOk result (OnlyBytes 0 (bytes_of (D.held disk.old) 0) (D.may_leave disk.new)) }
+    ensures slot_1 { IsTrue (D.tells disk.old)
+        → OnOk result (OnlyBytes 1 (bytes_of (D.held disk.old) 1) (D.may_leave disk.new)) }
     ensures untouched { Untouched D.tells D.held D.may_leave D.moment D.left_since disk.old disk.new }
     ensures counted { CountsFault D.Device.own 0 Fault disk.old disk.new result }
     ensures errors { IfErr result (λ error. (error ≡ Fault) ⊎ (error ≡ Memory)) }
@@ -219,18 +247,30 @@ fn read_both<D: Device>(alloc: Global, disk: &mut D) -> Result<(Vec<u8>, Vec<u8>
 
 /// Clears each slot, if it is vacant and long. These are their bytes that count.
 fn clear_both<D: Device>(disk: &mut D, first: &[u8], second: &[u8]) -> Result<(), Failed>
-    requires only_0 { IsTrue (D.tells disk.old) → OnlyBytes 0 (bytes_of (D.held disk.old) 0) (D.may_leave disk.old) }
-    requires only_1 { IsTrue (D.tells disk.old) → OnlyBytes 1 (bytes_of (D.held disk.old) 1) (D.may_leave disk.old) }
-    requires first { IsTrue (D.tells disk.old) → first.now ≡ counting (bytes_of (D.held disk.old) 0) }
-    requires second { IsTrue (D.tells disk.old) → second.now ≡ counting (bytes_of (D.held disk.old) 1) }
-    ensures kept { IsTrue (D.tells disk.old) → Run KeepsList D.moment D.left_since D.may_leave disk.old disk.new }
-    ensures slot_0 { IsTrue (D.tells disk.old) → OnOk result (OnlyBytes 0 (bytes_of (D.held disk.new) 0) (D.may_leave disk.new)) }
-    ensures slot_1 { IsTrue (D.tells disk.old) → OnOk result (OnlyBytes 1 (bytes_of (D.held disk.new) 1) (D.may_leave disk.new)) }
-    ensures cleared_0 { IsTrue (D.tells disk.old) → OnOk result (bytes_of (D.held disk.new) 0 ≡ cleared (bytes_of (D.held disk.old) 0)) }
-    ensures cleared_1 { IsTrue (D.tells disk.old) → OnOk result (bytes_of (D.held disk.new) 1 ≡ cleared (bytes_of (D.held disk.old) 1)) }
-    ensures free_0 { IsTrue (D.tells disk.old) → OnOk result (IsFree (bytes_of (D.held disk.new) 0)) }
-    ensures free_1 { IsTrue (D.tells disk.old) → OnOk result (IsFree (bytes_of (D.held disk.new) 1)) }
-    ensures others { IsTrue (D.tells disk.old) → (file : ℕ) → 2 ≤ file → bytes_of (D.held disk.new) file ≡ bytes_of (D.held disk.old) file }
+    requires only_0 { IsTrue (D.tells disk.old)
+        → OnlyBytes 0 (bytes_of (D.held disk.old) 0) (D.may_leave disk.old) }
+    requires only_1 { IsTrue (D.tells disk.old)
+        → OnlyBytes 1 (bytes_of (D.held disk.old) 1) (D.may_leave disk.old) }
+    requires first { IsTrue (D.tells disk.old)
+        → first.now ≡ counting (bytes_of (D.held disk.old) 0) }
+    requires second { IsTrue (D.tells disk.old)
+        → second.now ≡ counting (bytes_of (D.held disk.old) 1) }
+    ensures kept { IsTrue (D.tells disk.old)
+        → Run KeepsList D.moment D.left_since D.may_leave disk.old disk.new }
+    ensures slot_0 { IsTrue (D.tells disk.old)
+        → OnOk result (OnlyBytes 0 (bytes_of (D.held disk.new) 0) (D.may_leave disk.new)) }
+    ensures slot_1 { IsTrue (D.tells disk.old)
+        → OnOk result (OnlyBytes 1 (bytes_of (D.held disk.new) 1) (D.may_leave disk.new)) }
+    ensures cleared_0 { IsTrue (D.tells disk.old)
+        → OnOk result (bytes_of (D.held disk.new) 0 ≡ cleared (bytes_of (D.held disk.old) 0)) }
+    ensures cleared_1 { IsTrue (D.tells disk.old)
+        → OnOk result (bytes_of (D.held disk.new) 1 ≡ cleared (bytes_of (D.held disk.old) 1)) }
+    ensures free_0 { IsTrue (D.tells disk.old)
+        → OnOk result (IsFree (bytes_of (D.held disk.new) 0)) }
+    ensures free_1 { IsTrue (D.tells disk.old)
+        → OnOk result (IsFree (bytes_of (D.held disk.new) 1)) }
+    ensures others { IsTrue (D.tells disk.old) → (file : ℕ) → 2 ≤ file
+        → bytes_of (D.held disk.new) file ≡ bytes_of (D.held disk.old) file }
     ensures counted { Counts D.Device.own 0 (IsOk result) (IsErr result) disk.old disk.new }
 {
     clear_vacant(disk, 0, first)?;

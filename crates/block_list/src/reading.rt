@@ -140,7 +140,8 @@ fn read_head(reader: &mut Reader<'_>, slot: u8, other: Option<u8>) -> Result<Hea
 /// A file that was given out and that isn't named yet. It is named then.
 #[tactic(auto, unfolding(crate::specs::Reading::file_at))]
 fn read_file(reader: &mut Reader<'_>, seen: &mut HashSet<u32>, next_file: u32) -> Result<u32, Break>
-    ensures reads { GivesAt (λ x. x) result reader.new (file_at next_file seen.old.keys reader.old) }
+    ensures reads { GivesAt (λ x. x) result reader.new
+        (file_at next_file seen.old.keys reader.old) }
     ensures named { IfOk result (λ file. WithFile file seen.old.keys seen.new.keys) }
 {
     let at = reader.at();
@@ -191,7 +192,8 @@ fn read_segment(
     is_last: bool,
     before: Option<u64>,
 ) -> Result<SegmentRef, Break>
-    ensures reads { GivesAt (λ x. x) result reader.new (segment_ref_at head.next_file head.floor is_last before seen.old.keys reader.old) }
+    ensures reads { GivesAt (λ x. x) result reader.new
+        (segment_ref_at head.next_file head.floor is_last before seen.old.keys reader.old) }
     ensures named { IfOk result (λ segment. WithFile segment.file seen.old.keys seen.new.keys) }
 {
     let file = read_file(reader, seen, head.next_file)?;
@@ -229,7 +231,8 @@ fn read_block(
     seen: &mut HashSet<u32>,
     head: Head,
 ) -> Result<BlockRef, Break>
-    ensures reads { GivesAt (λ x. x) result reader.new (block_at head.next_file seen.old.keys reader.old) }
+    ensures reads { GivesAt (λ x. x) result reader.new
+        (block_at head.next_file seen.old.keys reader.old) }
     ensures named { IfOk result (λ block. WithFile block.file seen.old.keys seen.new.keys) }
 {
     let file = read_file(reader, seen, head.next_file)?;
@@ -246,8 +249,10 @@ fn read_segments(
     head: Head,
 ) -> Result<Vec<SegmentRef>, Break>
     requires { SameFiles seen.old.keys [] }
-    ensures reads { GivesAt (λ v. v.items) result reader.new (segments_at head.next_file head.floor head.segments None [] reader.old) }
-    ensures named { IfOk result (λ v. SameFiles seen.new.keys (map (λ segment. segment.file) v.items)) }
+    ensures reads { GivesAt (λ v. v.items) result reader.new
+        (segments_at head.next_file head.floor head.segments None [] reader.old) }
+    ensures named { IfOk result
+        (λ v. SameFiles seen.new.keys (map (λ segment. segment.file) v.items)) }
 {
     let mut segments = Vec::new(alloc);
     let mut before = None;
@@ -267,8 +272,10 @@ fn read_blocks(
     seen: &mut HashSet<u32>,
     head: Head,
 ) -> Result<Vec<BlockRef>, Break>
-    ensures reads { GivesAt (λ v. v.items) result reader.new (blocks_at head.next_file seen.old.keys head.blocks [] reader.old) }
-    ensures named { IfOk result (λ v. SameFiles seen.new.keys (seen.old.keys ++ map (λ block. block.file) v.items)) }
+    ensures reads { GivesAt (λ v. v.items) result reader.new
+        (blocks_at head.next_file seen.old.keys head.blocks [] reader.old) }
+    ensures named { IfOk result
+        (λ v. SameFiles seen.new.keys (seen.old.keys ++ map (λ block. block.file) v.items)) }
 {
     let mut blocks = Vec::new(alloc);
     for _index in 0..head.blocks {
@@ -285,7 +292,8 @@ fn read_loose(
     seen: &mut HashSet<u32>,
     head: Head,
 ) -> Result<Vec<u32>, Break>
-    ensures { GivesAt (λ v. v.items) result reader.new (loose_at head.next_file seen.old.keys head.loose [] reader.old) }
+    ensures { GivesAt (λ v. v.items) result reader.new
+        (loose_at head.next_file seen.old.keys head.loose [] reader.old) }
 {
     let mut loose = Vec::new(alloc);
     for _index in 0..head.loose {

@@ -70,7 +70,8 @@ fn few_attrs(
     count: u64,
 ) -> Result<Vec<Attr>, Break>
     requires { count ≤ 16 }
-    ensures { Finds (λ x. x.items) result fields.new (items_at (attr_with texts.now) count [] fields.old) }
+    ensures { Finds (λ x. x.items) result fields.new
+        (items_at (attr_with texts.now) count [] fields.old) }
 {
     let mut attrs = Vec::with_capacity(alloc, count as usize)?;
     for _ in 0..count {
@@ -82,8 +83,10 @@ fn few_attrs(
 
 /// Whether no attribute before has the key. Then it is one of their keys.
 fn is_new<'t>(keys: &mut BTreeSet<&'t str>, key: &'t Text) -> Result<bool, Memory>
-    ensures new_key { IfOk result (λ new. (before : List Attr) → HasKeysOf keys.old before → new ≡ not (has_key key.now before)) }
-    ensures kept { OnOk result ((before : List Attr) (attr : Attr) → HasKeysOf keys.old before → attr.key ≡ key.now → HasKeysOf keys.new (before ++ attr ∷ [])) }
+    ensures new_key { IfOk result (λ new. (before : List Attr) → HasKeysOf keys.old before
+        → new ≡ not (has_key key.now before)) }
+    ensures kept { OnOk result ((before : List Attr) (attr : Attr) → HasKeysOf keys.old before
+        → attr.key ≡ key.now → HasKeysOf keys.new (before ++ attr ∷ [])) }
 {
     match keys.insert(key.as_str()) {
         Ok(new) => Ok(new),
@@ -98,8 +101,10 @@ fn attr<'t>(
     texts: &'t [Text],
     keys: &mut BTreeSet<&'t str>,
 ) -> Result<Attr, Break>
-    ensures gives { (before : List Attr) → HasKeysOf keys.old before → Finds (λ x. x) result fields.new (attr_with texts.now before fields.old) }
-    ensures kept { IfOk result (λ attr. (before : List Attr) → HasKeysOf keys.old before → HasKeysOf keys.new (before ++ attr ∷ [])) }
+    ensures gives { (before : List Attr) → HasKeysOf keys.old before
+        → Finds (λ x. x) result fields.new (attr_with texts.now before fields.old) }
+    ensures kept { IfOk result (λ attr. (before : List Attr) → HasKeysOf keys.old before
+        → HasKeysOf keys.new (before ++ attr ∷ [])) }
 {
     let at = fields.at();
     let key = fields.reference(texts)?;
@@ -118,7 +123,8 @@ fn many_attrs(
     texts: &[Text],
     count: u64,
 ) -> Result<Vec<Attr>, Break>
-    ensures { Finds (λ x. x.items) result fields.new (items_at (attr_with texts.now) count [] fields.old) }
+    ensures { Finds (λ x. x.items) result fields.new
+        (items_at (attr_with texts.now) count [] fields.old) }
 {
     let mut attrs = Vec::new(alloc);
     let mut keys = BTreeSet::new(alloc);
@@ -136,7 +142,8 @@ fn each_attr(
     texts: &[Text],
     count: u64,
 ) -> Result<Vec<Attr>, Break>
-    ensures { Finds (λ x. x.items) result fields.new (items_at (attr_with texts.now) count [] fields.old) }
+    ensures { Finds (λ x. x.items) result fields.new
+        (items_at (attr_with texts.now) count [] fields.old) }
 {
     if count <= FEW {
         return few_attrs(alloc, fields, texts, count);

@@ -38,7 +38,8 @@ pub fn all_rows<P: Pages>(
 ) -> Result<Rows, ReadError>
     requires { P.ready pages.old block }
     ensures answers { IsTrue (P.tells pages.old) → AnswersOf (λ x. x) block result
-        (made_of (λ b. b.rows) (block_at (first_bytes (4096 * info.now.pages) (P.held pages.old block)))) }
+        (made_of (λ b. b.rows)
+        (block_at (first_bytes (4096 * info.now.pages) (P.held pages.old block)))) }
     ensures its_file { IsInFile block result }
     ensures reads { RoseAtMost info.now.pages (P.reads pages.old) (P.reads pages.new) }
     ensures read { HasRead P.went pages.old (is_fault result) pages.new }
@@ -73,7 +74,8 @@ pub fn trace_rows<P: Pages>(
 ) -> Result<Rows, ReadError>
     requires { P.ready pages.old block }
     ensures answers { IsTrue (P.tells pages.old) → (rows : List Row)
-        → BlockHasInfo info.now (P.held pages.old block) rows → Finds (rows_of_trace id rows) result }
+        → BlockHasInfo info.now (P.held pages.old block) rows
+        → Finds (rows_of_trace id rows) result }
     ensures of_trace { IfOk result (λ rows. rows_of_trace id rows ≡ rows) }
     ensures reads { IsTrue (P.tells pages.old) → (rows : List Row)
         → BlockHasInfo info.now (P.held pages.old block) rows
@@ -108,7 +110,8 @@ pub fn check_block<P: Pages>(
 ) -> Result<BlockInfo, ReadError>
     requires { P.ready pages.old block }
     ensures answers { IsTrue (P.tells pages.old) → AnswersOf (λ x. x) block result
-        (made_of (info_read block level) (listed_at rows (first_bytes length (P.held pages.old block)))) }
+        (made_of (info_read block level)
+        (listed_at rows (first_bytes length (P.held pages.old block)))) }
     ensures its_file { IsInFile block result }
     ensures reads { RoseAtMost (div_ceil length 4096) (P.reads pages.old) (P.reads pages.new) }
     ensures read { HasRead P.went pages.old (is_fault result) pages.new }
@@ -139,10 +142,13 @@ pub fn check_bytes(
     rows: u32,
     bytes: &[u8],
 ) -> Result<BlockInfo, Break>
-    ensures answers { Answers (λ x. x) result (made_of (info_read block level) (listed_at rows bytes.now)) }
-    ensures named { IfOk result (λ info. (info.file ≡ block) × (info.level ≡ level) × (info.rows ≡ rows)) }
+    ensures answers { Answers (λ x. x) result
+        (made_of (info_read block level) (listed_at rows bytes.now)) }
+    ensures named { IfOk result
+        (λ info. (info.file ≡ block) × (info.level ≡ level) × (info.rows ≡ rows)) }
     // The bytes stand for rows that it describes.
-    ensures described { IfOk result (λ info. (found : List Row) × BlockHasInfo info bytes.now found) }
+    ensures described { IfOk result
+        (λ info. (found : List Row) × BlockHasInfo info bytes.now found) }
 {
     listed_info(alloc, bytes, block, level, rows)
 }

@@ -58,7 +58,8 @@ fn is_listed(header: &Header, outline: &Outline, rows: u32) -> bool
 /// What a check keeps of the rows of all stripes. Rows are made only where it isn't sure without them.
 fn outline_of(alloc: Global, bytes: &[u8], header: &Header) -> Result<Outline, Break>
     requires { CanBeHeader header.now }
-    ensures answers { Answers (λ x. x) result (made_of outline (stripes_of header.now.form header.now.stripes None bytes.now)) }
+    ensures answers { Answers (λ x. x) result
+        (made_of outline (stripes_of header.now.form header.now.stripes None bytes.now)) }
     ensures few { IfOk result (λ found. length found.ids ≤ 256 * length header.now.stripes) }
     ensures long { IfOk result (λ found. All (λ id. length id.0 ≡ 16) found.ids) }
 {
@@ -71,7 +72,8 @@ fn outline_of(alloc: Global, bytes: &[u8], header: &Header) -> Result<Outline, B
 /// What a check keeps of the rows of all stripes, each of which is made.
 fn read_outline(alloc: Global, bytes: &[u8], header: &Header) -> Result<Outline, Break>
     requires { CanBeHeader header.now }
-    ensures answers { Answers (λ x. x) result (made_of outline (stripes_of header.now.form header.now.stripes None bytes.now)) }
+    ensures answers { Answers (λ x. x) result
+        (made_of outline (stripes_of header.now.form header.now.stripes None bytes.now)) }
     ensures few { IfOk result (λ found. length found.ids ≤ 256 * length header.now.stripes) }
     ensures long { IfOk result (λ found. All (λ id. length id.0 ≡ 16) found.ids) }
 {

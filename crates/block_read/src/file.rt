@@ -34,9 +34,11 @@ pub fn bytes_from<P: Pages>(
     requires ready { P.ready pages.old block }
     requires near { first ≤ 2 ^ 52 }
     ensures bytes { IsTrue (P.tells pages.old)
-        → IfOk result (λ bytes. bytes.items ≡ first_bytes length (drop (4096 * first) (P.held pages.old block))) }
+        → IfOk result (λ bytes.
+        bytes.items ≡ first_bytes length (drop (4096 * first) (P.held pages.old block))) }
     ensures reads { RoseAtMost (div_ceil length 4096) (P.reads pages.old) (P.reads pages.new) }
-    ensures only { OnlyReads P.tells P.held P.faults P.ready P.went P.name pages.old (is_unread result) pages.new }
+    ensures only { OnlyReads P.tells P.held P.faults P.ready P.went P.name pages.old
+        (is_unread result) pages.new }
 {
     let mut bytes = Vec::new(alloc);
     for page in 0..length.div_ceil(PAGE_BYTES) {
@@ -57,9 +59,11 @@ fn add_page<P: Pages>(
     requires ready { P.ready pages.old block }
     requires within { wanted ≤ 4096 }
     ensures bytes { IsTrue (P.tells pages.old)
-        → OnOk result (bytes.new.items ≡ bytes.old.items ++ take wanted (page_of (P.held pages.old block) page)) }
+        → OnOk result (bytes.new.items
+        ≡ bytes.old.items ++ take wanted (page_of (P.held pages.old block) page)) }
     ensures reads { RoseAtMost 1 (P.reads pages.old) (P.reads pages.new) }
-    ensures only { OnlyReads P.tells P.held P.faults P.ready P.went P.name pages.old (is_unread result) pages.new }
+    ensures only { OnlyReads P.tells P.held P.faults P.ready P.went P.name pages.old
+        (is_unread result) pages.new }
 {
     match page_bytes(pages, block, page) {
         Ok(page) => match bytes.extend_from_slice(&page[..wanted as usize]) {
@@ -76,7 +80,8 @@ pub fn page_bytes<P: Pages>(pages: &mut P, block: u32, page: u64) -> Result<[u8;
     ensures page { IsTrue (P.tells pages.old)
         → IfOk result (λ bytes. bytes ≡ page_of (P.held pages.old block) page) }
     ensures reads { RoseAtMost 1 (P.reads pages.old) (P.reads pages.new) }
-    ensures only { OnlyReads P.tells P.held P.faults P.ready P.went P.name pages.old (is_err result) pages.new }
+    ensures only { OnlyReads P.tells P.held P.faults P.ready P.went P.name pages.old
+        (is_err result) pages.new }
 {
     let mut buf = [0; 4096];
     match pages.page(block, page, &mut buf) {

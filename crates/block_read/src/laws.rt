@@ -16,13 +16,15 @@ use block_index::filters_hold_their_traces;
 /// What the bytes of a block stand for is what reading gives.
 pub fn held_block_is_read()
     ensures { (bytes : List ℕ) (header : Header) (rows : List Row)
-        → BlockHasHeader header bytes rows → block_at bytes ≡ Ok (record { header = header; rows = rows }) }
+        → BlockHasHeader header bytes rows
+        → block_at bytes ≡ Ok (record { header = header; rows = rows }) }
 {}
 
 /// What is read of bytes is what they stand for: bytes that are accepted are such as a block is built of.
 pub fn read_block_is_held()
     ensures { (bytes : List ℕ) (block : Block)
-        → AreBytes bytes → block_at bytes ≡ Ok block → BlockHasHeader block.header bytes block.rows }
+        → AreBytes bytes → block_at bytes ≡ Ok block
+        → BlockHasHeader block.header bytes block.rows }
 {}
 
 /// A file of a block's bytes, which this information describes: it has so many pages, and what reading gives of it is its
@@ -35,7 +37,8 @@ pub fn described_block_is_read()
         → made_of (λ b. b.rows) (block_at (first_bytes (4096 * info.pages) bytes)) ≡ Ok rows }
     ensures info { (bytes : List ℕ) (rows : List Row) (info : InfoParts)
         → BlockHasInfo info bytes rows
-        → made_of (info_read info.file info.level) (listed_at info.rows (first_bytes (length bytes) bytes)) ≡ Ok info }
+        → made_of (info_read info.file info.level)
+        (listed_at info.rows (first_bytes (length bytes) bytes)) ≡ Ok info }
 {
     filters_hold_their_traces();
 }

@@ -32,9 +32,12 @@ pub fn find_trace<P: Pages>(
 ) -> Result<Option<(u32, u32)>, Failed>
     requires { P.ready pages.old block }
     ensures place { IsTrue (P.tells pages.old) → (rows : List Row)
-        → BlockHasInfo info.now (P.held pages.old block) rows → IfOk result (λ found. found ≡ place_of id (ids_of rows)) }
-    ensures reads { RoseAtMost (1 + bits info.now.index_pages) (P.reads pages.old) (P.reads pages.new) }
-    ensures only { OnlyReads P.tells P.held P.faults P.ready P.went P.name pages.old (is_err result) pages.new }
+        → BlockHasInfo info.now (P.held pages.old block) rows
+        → IfOk result (λ found. found ≡ place_of id (ids_of rows)) }
+    ensures reads { RoseAtMost (1 + bits info.now.index_pages) (P.reads pages.old)
+        (P.reads pages.new) }
+    ensures only { OnlyReads P.tells P.held P.faults P.ready P.went P.name pages.old
+        (is_err result) pages.new }
 {
     match may_have(pages, block, info, id) {
         Ok(true) => find_entry(pages, block, info, id),
@@ -53,9 +56,11 @@ fn may_have<P: Pages>(
     requires { P.ready pages.old block }
     // No trace of the block is missed.
     ensures sure { IsTrue (P.tells pages.old) → (rows : List Row)
-        → BlockHasInfo info.now (P.held pages.old block) rows → list_any (is_same id) (ids_of rows) ≡ true → IfOk result (λ may. may ≡ true) }
+        → BlockHasInfo info.now (P.held pages.old block) rows
+        → list_any (is_same id) (ids_of rows) ≡ true → IfOk result (λ may. may ≡ true) }
     ensures reads { RoseAtMost 1 (P.reads pages.old) (P.reads pages.new) }
-    ensures only { OnlyReads P.tells P.held P.faults P.ready P.went P.name pages.old (is_err result) pages.new }
+    ensures only { OnlyReads P.tells P.held P.faults P.ready P.went P.name pages.old
+        (is_err result) pages.new }
 {
     filters_hold_their_traces();
     let Some(page) = filter_page(info, id) else {
@@ -91,9 +96,11 @@ fn find_entry<P: Pages>(
 ) -> Result<Option<(u32, u32)>, Failed>
     requires { P.ready pages.old block }
     ensures place { IsTrue (P.tells pages.old) → (ids : List Trace)
-        → HasIndex info.now (P.held pages.old block) ids → IfOk result (λ found. found ≡ place_of id ids) }
+        → HasIndex info.now (P.held pages.old block) ids
+        → IfOk result (λ found. found ≡ place_of id ids) }
     ensures reads { RoseAtMost (bits info.now.index_pages) (P.reads pages.old) (P.reads pages.new) }
-    ensures only { OnlyReads P.tells P.held P.faults P.ready P.went P.name pages.old (is_err result) pages.new }
+    ensures only { OnlyReads P.tells P.held P.faults P.ready P.went P.name pages.old
+        (is_err result) pages.new }
 {
     pages_find_their_traces();
     entries_tell_rows();
@@ -125,9 +132,11 @@ fn index_of(info: &BlockInfo) -> (u64, u32)
 fn said_by<P: Pages>(pages: &mut P, block: u32, page: u64, id: TraceId) -> Result<Found, Failed>
     requires { P.ready pages.old block }
     ensures said { IsTrue (P.tells pages.old)
-        → IfOk result (λ said. said ≡ found id (entries_on (page_of (P.held pages.old block) page))) }
+        → IfOk result (λ said.
+        said ≡ found id (entries_on (page_of (P.held pages.old block) page))) }
     ensures reads { RoseAtMost 1 (P.reads pages.old) (P.reads pages.new) }
-    ensures only { OnlyReads P.tells P.held P.faults P.ready P.went P.name pages.old (is_err result) pages.new }
+    ensures only { OnlyReads P.tells P.held P.faults P.ready P.went P.name pages.old
+        (is_err result) pages.new }
 {
     match page_bytes(pages, block, page) {
         Ok(page) => Ok(find_in_page(&page, id)),

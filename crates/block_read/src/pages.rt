@@ -35,7 +35,8 @@ pub trait Pages {
     /// buffer is open.
     fn page(&mut self, block: u32, page: u64, buf: &mut [u8; 4096]) -> Result<(), Failed>
         requires { ready self.now block }
-        ensures page { IsTrue (tells self.old) → OnOk result (buf.new ≡ page_of (held self.old block) page) }
+        ensures page { IsTrue (tells self.old)
+            → OnOk result (buf.new ≡ page_of (held self.old block) page) }
         ensures same_files { IsTrue (tells self.old) → SameFiles (held self.old) (held self.new) }
         ensures telling { tells self.new ≡ tells self.old }
         ensures cause { HasCause (faults self.old) (faults self.new) result }

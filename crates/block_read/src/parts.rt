@@ -38,12 +38,15 @@ pub fn traces_of_part<P: Pages>(
     requires near { entry.now.page + entry.now.pages < 2 ^ 52 }
     requires in_order { AreInOrder ids.now }
     ensures answers { IsTrue (P.tells pages.old) → (rows : List Row)
-        → StripeHasEntry form entry.now (part_of entry.now.page entry.now.pages (P.held pages.old block)) rows
+        → StripeHasEntry form entry.now
+        (part_of entry.now.page entry.now.pages (P.held pages.old block)) rows
         → FindsTraces ids.now rows result }
-    ensures of_traces { IfOk result (λ found. rows_of_traces ids.now found.rows.items ≡ found.rows.items) }
+    ensures of_traces { IfOk result
+        (λ found. rows_of_traces ids.now found.rows.items ≡ found.rows.items) }
     ensures its_file { IsInFile block result }
     ensures reads { RoseAtMost entry.now.pages (P.reads pages.old) (P.reads pages.new) }
-    ensures only { OnlyReads P.tells P.held P.faults P.ready P.went P.name pages.old (is_fault result) pages.new }
+    ensures only { OnlyReads P.tells P.held P.faults P.ready P.went P.name pages.old
+        (is_fault result) pages.new }
 {
     match stripe_bytes(alloc, pages, block, entry) {
         Ok(bytes) => traces_of_bytes(alloc, block, form, entry, bytes.as_slice(), ids),
@@ -63,8 +66,10 @@ fn traces_of_bytes(
 ) -> Result<StripeTraces, ReadError>
     requires near { entry.now.page + entry.now.pages < 2 ^ 52 }
     requires in_order { AreInOrder ids.now }
-    ensures answers { (rows : List Row) → StripeHasEntry form entry.now bytes.now rows → FindsTraces ids.now rows result }
-    ensures of_traces { IfOk result (λ found. rows_of_traces ids.now found.rows.items ≡ found.rows.items) }
+    ensures answers { (rows : List Row) → StripeHasEntry form entry.now bytes.now rows
+        → FindsTraces ids.now rows result }
+    ensures of_traces { IfOk result
+        (λ found. rows_of_traces ids.now found.rows.items ≡ found.rows.items) }
     ensures its_file { IsInFile block result }
     ensures no_fault { is_fault result ≡ false }
 {
@@ -91,7 +96,8 @@ pub fn rows_of_bytes(
     bytes: &[u8],
 ) -> Result<Rows, ReadError>
     requires near { entry.now.page + entry.now.pages < 2 ^ 52 }
-    ensures answers { (rows : List Row) → stripe_of form entry.now None bytes.now ≡ Ok rows → Finds rows result }
+    ensures answers { (rows : List Row) → stripe_of form entry.now None bytes.now ≡ Ok rows
+        → Finds rows result }
     ensures its_file { IsInFile block result }
     ensures no_fault { is_fault result ≡ false }
 {
@@ -115,9 +121,11 @@ pub fn stripe_bytes<P: Pages>(
     requires ready { P.ready pages.old block }
     requires near { entry.now.page + entry.now.pages < 2 ^ 52 }
     ensures bytes { IsTrue (P.tells pages.old) → IfOk result (λ bytes. bytes.items
-        ≡ first_bytes (4096 * entry.now.pages) (drop (4096 * entry.now.page) (P.held pages.old block))) }
+        ≡ first_bytes (4096 * entry.now.pages)
+        (drop (4096 * entry.now.page) (P.held pages.old block))) }
     ensures reads { RoseAtMost entry.now.pages (P.reads pages.old) (P.reads pages.new) }
-    ensures only { OnlyReads P.tells P.held P.faults P.ready P.went P.name pages.old (is_unread result) pages.new }
+    ensures only { OnlyReads P.tells P.held P.faults P.ready P.went P.name pages.old
+        (is_unread result) pages.new }
 {
     bytes_from(alloc, pages, block, entry.page, PAGE_BYTES * entry.pages)
 }

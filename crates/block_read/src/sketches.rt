@@ -25,7 +25,8 @@ use stripe_skims::{RowKey, Sketch, is_before, key, skim};
 /// What a check keeps of the rows of all stripes. None says nothing.
 pub fn sketched(alloc: Global, bytes: &[u8], header: &Header) -> Option<Outline>
     requires { CanBeHeader header.now }
-    ensures answers { IfSome result (λ found. made_of outline (stripes_of header.now.form header.now.stripes None bytes.now) ≡ Ok found) }
+    ensures answers { IfSome result (λ found.
+        made_of outline (stripes_of header.now.form header.now.stripes None bytes.now) ≡ Ok found) }
     ensures few { IfSome result (λ found. length found.ids ≤ 256 * length header.now.stripes) }
     ensures long { IfSome result (λ found. All (λ id. length id.0 ≡ 16) found.ids) }
 {
@@ -46,7 +47,8 @@ pub fn sketched(alloc: Global, bytes: &[u8], header: &Header) -> Option<Outline>
 /// What a check keeps, with what is told of further rows.
 fn with(found: Outline, sketch: &Sketch) -> Option<Outline>
     ensures ids { IfSome result (λ new. new.ids ≡ found.ids ++ sketch.now.traces.items) }
-    ensures form { IfSome result (λ new. new.form ≡ max found.form (if sketch.now.rich then 2 else 1)) }
+    ensures form { IfSome result
+        (λ new. new.form ≡ max found.form (if sketch.now.rich then 2 else 1)) }
 {
     let mut found = found;
     let Ok(()) = found.ids.extend_from_slice(sketch.traces.as_slice()) else {
@@ -64,7 +66,8 @@ fn stripe(
     entry: &StripeInfo,
     last: &Option<RowKey>,
 ) -> Option<Sketch>
-    ensures { IfSome result (λ sketch. (row : Option Row) → keyed row ≡ last.now → IsStripe form entry.now row part.now sketch) }
+    ensures { IfSome result (λ sketch. (row : Option Row) → keyed row ≡ last.now
+        → IsStripe form entry.now row part.now sketch) }
 {
     if !can_agree(entry) {
         return None;
@@ -87,7 +90,8 @@ fn stripe(
 
 /// Whether the first row comes after the row with that key, where there is one. False says nothing.
 fn follows(last: &Option<RowKey>, sketch: &Sketch) -> bool
-    ensures { IsTrue result → (row : Option Row) → keyed row ≡ last.now → (rows : List Row) → IsSketch rows sketch.now → follow row rows ≡ true }
+    ensures { IsTrue result → (row : Option Row) → keyed row ≡ last.now → (rows : List Row)
+        → IsSketch rows sketch.now → follow row rows ≡ true }
 {
     let Some(last) = last else {
         return true;
@@ -100,7 +104,8 @@ fn follows(last: &Option<RowKey>, sketch: &Sketch) -> bool
 
 /// The key of the last row. None says nothing.
 fn last_key(sketch: &Sketch) -> Option<RowKey>
-    ensures { IfSome result (λ key. (rows : List Row) → IsSketch rows sketch.now → keyed (last_of rows) ≡ Some key) }
+    ensures { IfSome result (λ key. (rows : List Row) → IsSketch rows sketch.now
+        → keyed (last_of rows) ≡ Some key) }
 {
     let most = sketch.starts.as_slice().len().checked_sub(1)?;
     key(sketch, most)

@@ -27,7 +27,8 @@ const PAGE_BYTES: u64 = 4096;
 /// The rows of all stripes of a block.
 pub fn stripes(alloc: Global, bytes: &[u8], header: &Header) -> Result<Vec<Row>, Break>
     requires { CanBeHeader header.now }
-    ensures answers { Answers (λ x. x.items) result (stripes_of header.now.form header.now.stripes None bytes.now) }
+    ensures answers { Answers (λ x. x.items) result
+        (stripes_of header.now.form header.now.stripes None bytes.now) }
     ensures few { IfOk result (λ rows. length rows.items ≤ 256 * length header.now.stripes) }
 {
     let mut rows = Vec::new(alloc);
@@ -144,7 +145,8 @@ fn agreeing(alloc: Global, part: &[u8], form: u8, entry: &StripeInfo) -> Result<
 
 /// The rows of a stripe by itself.
 fn rows_of(alloc: Global, part: &[u8], form: u8) -> Result<Vec<Row>, Break>
-    ensures answers { Answers (λ x. x.items) result (within part.now (stripe_at (is_extended form) part.now)) }
+    ensures answers { Answers (λ x. x.items) result
+        (within part.now (stripe_at (is_extended form) part.now)) }
     ensures few { IfOk result (λ rows. length rows.items ≤ 256) }
 {
     each_fits(part);

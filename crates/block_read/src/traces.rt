@@ -31,13 +31,15 @@ pub fn rows_at<P: Pages>(
 ) -> Result<Rows, ReadError>
     requires { P.ready pages.old block }
     ensures answers { IsTrue (P.tells pages.old) → (rows : List Row)
-        → HasTrace info.now (P.held pages.old block) id first count rows → Finds (rows_of_trace id rows) result }
+        → HasTrace info.now (P.held pages.old block) id first count rows
+        → Finds (rows_of_trace id rows) result }
     ensures of_trace { IfOk result (λ rows. rows_of_trace id rows ≡ rows) }
     ensures reads { IsTrue (P.tells pages.old) → (rows : List Row)
         → HasTrace info.now (P.held pages.old block) id first count rows
         → RoseAtMost (pages_with id info.now.stripes rows) (P.reads pages.old) (P.reads pages.new) }
     ensures its_file { IsInFile block result }
-    ensures only { OnlyReads P.tells P.held P.faults P.ready P.went P.name pages.old (is_fault result) pages.new }
+    ensures only { OnlyReads P.tells P.held P.faults P.ready P.went P.name pages.old
+        (is_fault result) pages.new }
 {
     let stripes = info.stripes.as_slice();
     let (from, to) = stripes_of(first, count);
@@ -82,13 +84,15 @@ fn add_stripe<P: Pages>(
     requires ready { P.ready pages.old block }
     requires near { entry.now.page + entry.now.pages < 2 ^ 52 }
     ensures answers { IsTrue (P.tells pages.old) → (rows : List Row)
-        → StripeHasEntry form entry.now (part_of entry.now.page entry.now.pages (P.held pages.old block)) rows
+        → StripeHasEntry form entry.now
+        (part_of entry.now.page entry.now.pages (P.held pages.old block)) rows
         → Adds (rows_of_trace id rows) found.old.items found.new.items result }
     ensures of_trace { OnOk result (rows_of_trace id found.old.items ≡ found.old.items
         → rows_of_trace id found.new.items ≡ found.new.items) }
     ensures its_file { IsInFile block result }
     ensures reads { RoseAtMost entry.now.pages (P.reads pages.old) (P.reads pages.new) }
-    ensures only { OnlyReads P.tells P.held P.faults P.ready P.went P.name pages.old (is_fault result) pages.new }
+    ensures only { OnlyReads P.tells P.held P.faults P.ready P.went P.name pages.old
+        (is_fault result) pages.new }
 {
     match traces_of_part(alloc, pages, block, form, entry, &[id]) {
         Ok(part) => match add(found, part.rows) {

@@ -88,8 +88,10 @@ pub fn cells(
     scopes: Listed<SharedScope>,
     count: u64,
 ) -> Result<Vec<Cells>, Break>
-    ensures { Finds (λ x. x.items) result fields.new (cells_at tables.now.strict tables.now.extended tables.now.texts.now
-        (record { list = resources.entry.list; values = resources.entry.values.now }) (record { list = scopes.entry.list; values = scopes.entry.values.now }) count fields.old) }
+    ensures { Finds (λ x. x.items) result fields.new
+        (cells_at tables.now.strict tables.now.extended tables.now.texts.now
+        (record { list = resources.entry.list; values = resources.entry.values.now })
+        (record { list = scopes.entry.list; values = scopes.entry.values.now }) count fields.old) }
 {
     let texts = tables.texts;
     let extended = tables.extended;

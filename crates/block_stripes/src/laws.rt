@@ -8,17 +8,20 @@ ghost use Rattle.block_stripes.specs.Stripes.{StripeHolds, is_extended};
 
 /// What the bytes of a stripe stand for is what reading gives.
 pub fn held_is_read()
-    ensures { (form : ℕ) (bytes : List ℕ) (rows : List Row) → StripeHolds form bytes rows → stripe_at (is_extended form) bytes ≡ Ok rows }
+    ensures { (form : ℕ) (bytes : List ℕ) (rows : List Row) → StripeHolds form bytes rows
+        → stripe_at (is_extended form) bytes ≡ Ok rows }
 {}
 
 /// What is read of bytes is what they stand for: bytes that are accepted are such as `write_stripe` gives.
 pub fn read_is_held()
-    ensures { (form : ℕ) (bytes : List ℕ) (rows : List Row) → AreBytes bytes → stripe_at (is_extended form) bytes ≡ Ok rows → StripeHolds form bytes rows }
+    ensures { (form : ℕ) (bytes : List ℕ) (rows : List Row) → AreBytes bytes
+        → stripe_at (is_extended form) bytes ≡ Ok rows → StripeHolds form bytes rows }
 {}
 
 /// The bytes of a stripe stand for one list of rows at most.
 pub fn one_meaning()
-    ensures { (form : ℕ) (bytes : List ℕ) (rows others : List Row) → StripeHolds form bytes rows → StripeHolds form bytes others → rows ≡ others }
+    ensures { (form : ℕ) (bytes : List ℕ) (rows others : List Row) → StripeHolds form bytes rows
+        → StripeHolds form bytes others → rows ≡ others }
 {}
 
 /// Some rows have no bytes: no rows at all, for one.

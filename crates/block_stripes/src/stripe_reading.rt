@@ -103,7 +103,9 @@ fn text_rows(
     texts: &[Text],
     extended: bool,
 ) -> Result<Vec<Row>, Break>
-    ensures { Finds (λ x. x.items) result fields.new (texts_first list.now texts.now (owned_rows_at true extended texts.now fields.old) (owned_rows_at false extended texts.now fields.old)) }
+    ensures { Finds (λ x. x.items) result fields.new
+        (texts_first list.now texts.now (owned_rows_at true extended texts.now fields.old)
+        (owned_rows_at false extended texts.now fields.old)) }
 {
     let lenient = fields.fork();
     let tables = Tables {
@@ -133,7 +135,9 @@ fn text_or(
     extended: bool,
     at: u64,
 ) -> Break
-    ensures { Fails result (texts_first list.now texts.now (Err at) (owned_rows_at false extended texts.now fields.entry)) }
+    ensures { Fails result
+        (texts_first list.now texts.now (Err at)
+        (owned_rows_at false extended texts.now fields.entry)) }
 {
     let tables = Tables {
         texts,
@@ -155,7 +159,8 @@ fn text_or(
 /// The resources, the scopes, and the rows.
 #[tactic(auto, unfolding(crate::specs::StripeReadings::owned_rows_at))]
 fn owned_rows(alloc: Global, fields: &mut Fields, tables: &Tables) -> Result<Vec<Row>, Break>
-    ensures { Finds (λ x. x.items) result fields.new (owned_rows_at tables.now.strict tables.now.extended tables.now.texts.now fields.old) }
+    ensures { Finds (λ x. x.items) result fields.new
+        (owned_rows_at tables.now.strict tables.now.extended tables.now.texts.now fields.old) }
 {
     let list = fields.fork();
     let texts = tables.texts;
@@ -176,7 +181,8 @@ fn scoped_rows(
     tables: &Tables,
     resources: Listed<SharedResource>,
 ) -> Result<Vec<Row>, Break>
-    ensures { Finds (λ x. x.items) result fields.new (scoped_rows_at tables.now.strict tables.now.extended tables.now.texts.now
+    ensures { Finds (λ x. x.items) result fields.new
+        (scoped_rows_at tables.now.strict tables.now.extended tables.now.texts.now
         (record { list = resources.entry.list; values = resources.entry.values.now }) fields.old) }
 {
     let list = fields.fork();

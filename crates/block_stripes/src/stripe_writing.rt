@@ -148,7 +148,8 @@ fn put_columns<'a, 'b>(
 ) -> Result<(), Memory>
     requires of_resources { resources.now ≡ numbered same_resource (resources_of rows.now) }
     requires of_scopes { scopes.now ≡ numbered same_scope (scopes_of rows.now) }
-    ensures written { OnOk result (page.new ≡ wrote (columns (row_columns extended)) rows.now page.old) }
+    ensures written { OnOk result
+        (page.new ≡ wrote (columns (row_columns extended)) rows.now page.old) }
     ensures sound { OnOk result (AreWritten extended rows.now) }
 {
     put_ids(page, rows)?;
@@ -168,7 +169,8 @@ fn put_owned<'a, 'b>(
 ) -> Result<(), Memory>
     requires of_resources { resources.now ≡ numbered same_resource (resources_of rows.now) }
     requires of_scopes { scopes.now ≡ numbered same_scope (scopes_of rows.now) }
-    ensures written { OnOk result (page.new ≡ wrote (columns (owner_columns extended)) rows.now page.old) }
+    ensures written { OnOk result
+        (page.new ≡ wrote (columns (owner_columns extended)) rows.now page.old) }
     ensures sound { OnOk result (AreOwned extended rows.now) }
 {
     page.raw(resources.numbers.as_slice())?;
@@ -180,8 +182,10 @@ fn put_owned<'a, 'b>(
 
 /// The pages of a content: the texts, and the bytes after them.
 fn whole(alloc: Global, texts: &IndexSet<&Text>, body: &[u8]) -> Result<Bytes, Memory>
-    ensures bytes { IfOk result (λ bytes. bytes ≡ padded (after_length (texts_bytes (map (λ k. k.now) texts.now.keys) ++ body.now))) }
-    ensures short { OnOk result (length (texts_bytes (map (λ k. k.now) texts.now.keys) ++ body.now) < 2 ^ 64) }
+    ensures bytes { IfOk result (λ bytes.
+        bytes ≡ padded (after_length (texts_bytes (map (λ k. k.now) texts.now.keys) ++ body.now))) }
+    ensures short { OnOk result
+        (length (texts_bytes (map (λ k. k.now) texts.now.keys) ++ body.now) < 2 ^ 64) }
     ensures fit { IfOk result (λ bytes. AreBytes bytes) }
 {
     let mut page = Page::new(alloc);

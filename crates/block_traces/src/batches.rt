@@ -37,7 +37,8 @@ pub fn rows_of_traces<P: Pages>(
     ensures its_file { IsInFile block result }
     ensures reads { IsTrue (P.tells pages.old) → (rows : List Row)
         → BlockHasInfo info.now (P.held pages.old block) rows
-        → RoseAtMost (pages_for_each info.now ids.now rows) (P.reads pages.old) (P.reads pages.new) }
+        → RoseAtMost (pages_for_each info.now ids.now rows) (P.reads pages.old)
+        (P.reads pages.new) }
     ensures only { OnlyReads P.tells P.held P.faults P.ready P.went P.name
         pages.old (is_fault result) pages.new }
 {

@@ -28,16 +28,19 @@ pub fn add_stripe<P: Pages>(
     requires near { entry.now.page + entry.now.pages < 2 ^ 52 }
     requires in_order { AreInOrder ids.now }
     ensures answers { IsTrue (P.tells pages.old) → (rows : List Row)
-        → StripeHasEntry form entry.now (part_of entry.now.page entry.now.pages (P.held pages.old block)) rows
+        → StripeHasEntry form entry.now
+        (part_of entry.now.page entry.now.pages (P.held pages.old block)) rows
         → Adds (rows_of_traces ids.now rows) found.old.items found.new.items result }
     ensures last { IsTrue (P.tells pages.old) → (rows : List Row)
-        → StripeHasEntry form entry.now (part_of entry.now.page entry.now.pages (P.held pages.old block)) rows
+        → StripeHasEntry form entry.now
+        (part_of entry.now.page entry.now.pages (P.held pages.old block)) rows
         → IfOk result (λ last. last ≡ last_trace rows) }
     ensures of_traces { OnOk result (rows_of_traces ids.now found.old.items ≡ found.old.items
         → rows_of_traces ids.now found.new.items ≡ found.new.items) }
     ensures its_file { IsInFile block result }
     ensures reads { RoseAtMost entry.now.pages (P.reads pages.old) (P.reads pages.new) }
-    ensures only { OnlyReads P.tells P.held P.faults P.ready P.went P.name pages.old (is_fault result) pages.new }
+    ensures only { OnlyReads P.tells P.held P.faults P.ready P.went P.name pages.old
+        (is_fault result) pages.new }
 {
     match traces_of_part(alloc, pages, block, form, entry, ids) {
         Ok(part) => match add(found, part.rows) {

@@ -43,15 +43,18 @@ pub fn pass_trace<P: Pages>(
     requires in_order { AreInOrder ids.now }
     ensures answers { IsTrue (P.tells pages.old) → (rows : List Row)
         → BlockHasInfo info.now (P.held pages.old block) rows
-        → (done later : List Trace) → ids.now ≡ done ++ id ∷ later → HasCome ids.now done rows walk.old
+        → (done later : List Trace) → ids.now ≡ done ++ id ∷ later
+        → HasCome ids.now done rows walk.old
         → Comes (HasCome ids.now (done ++ id ∷ []) rows walk.new) result }
-    ensures of_traces { OnOk result (rows_of_traces ids.now walk.old.found.items ≡ walk.old.found.items
+    ensures of_traces { OnOk result
+        (rows_of_traces ids.now walk.old.found.items ≡ walk.old.found.items
         → rows_of_traces ids.now walk.new.found.items ≡ walk.new.found.items) }
     ensures its_file { IsInFile block result }
     ensures reads { IsTrue (P.tells pages.old) → (rows : List Row)
         → BlockHasInfo info.now (P.held pages.old block) rows
         → RoseAtMost (most_pages info.now id rows) (P.reads pages.old) (P.reads pages.new) }
-    ensures only { OnlyReads P.tells P.held P.faults P.ready P.went P.name pages.old (is_fault result) pages.new }
+    ensures only { OnlyReads P.tells P.held P.faults P.ready P.went P.name pages.old
+        (is_fault result) pages.new }
 {
     if has_passed(id, walk.last) {
         return Ok(());
@@ -94,15 +97,18 @@ fn pass_rows<P: Pages>(
     requires in_order { AreInOrder ids.now }
     ensures answers { IsTrue (P.tells pages.old) → (rows : List Row) → (id : Trace)
         → HasTrace info.now (P.held pages.old block) id first count rows
-        → (done later : List Trace) → ids.now ≡ done ++ id ∷ later → HasCome ids.now done rows walk.old
+        → (done later : List Trace) → ids.now ≡ done ++ id ∷ later
+        → HasCome ids.now done rows walk.old
         → Comes (HasCome ids.now (done ++ id ∷ []) rows walk.new) result }
-    ensures of_traces { OnOk result (rows_of_traces ids.now walk.old.found.items ≡ walk.old.found.items
+    ensures of_traces { OnOk result
+        (rows_of_traces ids.now walk.old.found.items ≡ walk.old.found.items
         → rows_of_traces ids.now walk.new.found.items ≡ walk.new.found.items) }
     ensures its_file { IsInFile block result }
     ensures reads { IsTrue (P.tells pages.old) → (rows : List Row) → (id : Trace)
         → HasTrace info.now (P.held pages.old block) id first count rows
         → RoseAtMost (pages_with id info.now.stripes rows) (P.reads pages.old) (P.reads pages.new) }
-    ensures only { OnlyReads P.tells P.held P.faults P.ready P.went P.name pages.old (is_fault result) pages.new }
+    ensures only { OnlyReads P.tells P.held P.faults P.ready P.went P.name pages.old
+        (is_fault result) pages.new }
 {
     let stripes = info.stripes.as_slice();
     let (from, to) = stripes_of(first, count);

@@ -75,10 +75,13 @@ impl<'a> Reader<'a> {
 
     /// The next `count` bytes.
     pub fn raw(&mut self, count: u64) -> Result<&'a [u8], FieldError>
-        ensures value { IfOk result (λ x. (length x.now ≡ count) × MovesPast x.now self.old self.new) }
-        ensures only { (bytes rest : List ℕ) → length bytes ≡ count → left self.old ≡ bytes ++ rest → IsOkAnd result (λ x. x.now ≡ bytes) }
+        ensures value { IfOk result
+            (λ x. (length x.now ≡ count) × MovesPast x.now self.old self.new) }
+        ensures only { (bytes rest : List ℕ) → length bytes ≡ count → left self.old ≡ bytes ++ rest
+            → IsOkAnd result (λ x. x.now ≡ bytes) }
 
-        ensures short { IsErrOf result (Short (length self.old.whole)) ↔ (length (left self.old) < count) }
+        ensures short { IsErrOf result (Short (length self.old.whole)) ↔
+            (length (left self.old) < count) }
         ensures errors { IfErr result (λ e. e ≡ Short (length self.old.whole)) }
         ensures stays { OnErr result (self.new ≡ self.old) }
 
@@ -104,9 +107,11 @@ impl<'a> Reader<'a> {
     /// A number of four bytes, little-endian.
     pub fn fixed32(&mut self) -> Result<u32, FieldError>
         ensures value { IfOk result (λ n. MovesPast (fixed32_bytes n) self.old self.new) }
-        ensures only { (n : ℕ) (rest : List ℕ) → n < 2 ^ 32 → left self.old ≡ fixed32_bytes n ++ rest → result ≡ Ok n }
+        ensures only { (n : ℕ) (rest : List ℕ) → n < 2 ^ 32
+            → left self.old ≡ fixed32_bytes n ++ rest → result ≡ Ok n }
 
-        ensures short { IsErrOf result (Short (length self.old.whole)) ↔ (length (left self.old) < 4) }
+        ensures short { IsErrOf result (Short (length self.old.whole)) ↔
+            (length (left self.old) < 4) }
         ensures errors { IfErr result (λ e. e ≡ Short (length self.old.whole)) }
         ensures stays { OnErr result (self.new ≡ self.old) }
 
@@ -118,9 +123,11 @@ impl<'a> Reader<'a> {
     /// A number of eight bytes, little-endian.
     pub fn fixed64(&mut self) -> Result<u64, FieldError>
         ensures value { IfOk result (λ n. MovesPast (fixed64_bytes n) self.old self.new) }
-        ensures only { (n : ℕ) (rest : List ℕ) → n < 2 ^ 64 → left self.old ≡ fixed64_bytes n ++ rest → result ≡ Ok n }
+        ensures only { (n : ℕ) (rest : List ℕ) → n < 2 ^ 64
+            → left self.old ≡ fixed64_bytes n ++ rest → result ≡ Ok n }
 
-        ensures short { IsErrOf result (Short (length self.old.whole)) ↔ (length (left self.old) < 8) }
+        ensures short { IsErrOf result (Short (length self.old.whole)) ↔
+            (length (left self.old) < 8) }
         ensures errors { IfErr result (λ e. e ≡ Short (length self.old.whole)) }
         ensures stays { OnErr result (self.new ≡ self.old) }
 
@@ -132,11 +139,15 @@ impl<'a> Reader<'a> {
     /// A number in groups of seven bits, in its shortest form.
     pub fn var(&mut self) -> Result<u64, FieldError>
         ensures value { IfOk result (λ n. MovesPast (var_bytes n) self.old self.new) }
-        ensures only { (n : ℕ) (rest : List ℕ) → n < 2 ^ 64 → left self.old ≡ var_bytes n ++ rest → result ≡ Ok n }
+        ensures only { (n : ℕ) (rest : List ℕ) → n < 2 ^ 64 → left self.old ≡ var_bytes n ++ rest
+            → result ≡ Ok n }
 
-        ensures short { IsErrOf result (Short (length self.old.whole)) ↔ EndsInNumber 9 (left self.old) }
-        ensures not_shortest { IsErrOf result (NotShortest self.old.at) ↔ IsLongNumber 9 (left self.old) }
-        ensures errors { IfErr result (λ e. (e ≡ Short (length self.old.whole)) ⊎ (e ≡ NotShortest self.old.at)) }
+        ensures short { IsErrOf result (Short (length self.old.whole)) ↔ EndsInNumber 9
+            (left self.old) }
+        ensures not_shortest { IsErrOf result (NotShortest self.old.at) ↔ IsLongNumber 9
+            (left self.old) }
+        ensures errors { IfErr result
+            (λ e. (e ≡ Short (length self.old.whole)) ⊎ (e ≡ NotShortest self.old.at)) }
         ensures stays { OnErr result (self.new ≡ self.old) }
 
         ensures reads { Reads (λ x. x) result self.old self.new (var_at self.old) }
@@ -147,11 +158,15 @@ impl<'a> Reader<'a> {
     /// A signed number: its zigzag number as a `var`.
     pub fn zigzag(&mut self) -> Result<i64, FieldError>
         ensures value { IfOk result (λ z. MovesPast (zigzag_bytes z) self.old self.new) }
-        ensures only { (z : ℤ) (rest : List ℕ) → FitsSigned w64 z → left self.old ≡ zigzag_bytes z ++ rest → result ≡ Ok z }
+        ensures only { (z : ℤ) (rest : List ℕ) → FitsSigned w64 z
+            → left self.old ≡ zigzag_bytes z ++ rest → result ≡ Ok z }
 
-        ensures short { IsErrOf result (Short (length self.old.whole)) ↔ EndsInNumber 9 (left self.old) }
-        ensures not_shortest { IsErrOf result (NotShortest self.old.at) ↔ IsLongNumber 9 (left self.old) }
-        ensures errors { IfErr result (λ e. (e ≡ Short (length self.old.whole)) ⊎ (e ≡ NotShortest self.old.at)) }
+        ensures short { IsErrOf result (Short (length self.old.whole)) ↔ EndsInNumber 9
+            (left self.old) }
+        ensures not_shortest { IsErrOf result (NotShortest self.old.at) ↔ IsLongNumber 9
+            (left self.old) }
+        ensures errors { IfErr result
+            (λ e. (e ≡ Short (length self.old.whole)) ⊎ (e ≡ NotShortest self.old.at)) }
         ensures stays { OnErr result (self.new ≡ self.old) }
 
         ensures reads { Reads (λ x. x) result self.old self.new (zigzag_at self.old) }
@@ -161,14 +176,19 @@ impl<'a> Reader<'a> {
 
     /// A text: the `var` of its length, and its bytes in UTF-8, which stay where they are.
     pub fn text_str(&mut self) -> Result<&'a str, FieldError>
-        ensures value { IfOk result (λ t. IsUtf8 t.now × MovesPast (text_bytes t.now) self.old self.new) }
-        ensures only { (text rest : List ℕ) → IsUtf8 text → length text < 2 ^ 64 → left self.old ≡ text_bytes text ++ rest
+        ensures value { IfOk result
+            (λ t. IsUtf8 t.now × MovesPast (text_bytes t.now) self.old self.new) }
+        ensures only { (text rest : List ℕ) → IsUtf8 text → length text < 2 ^ 64
+            → left self.old ≡ text_bytes text ++ rest
             → IsOkAnd result (λ t. t.now ≡ text) }
 
-        ensures short { IsErrOf result (Short (length self.old.whole)) ↔ EndsInText (left self.old) }
-        ensures not_shortest { IsErrOf result (NotShortest self.old.at) ↔ IsLongNumber 9 (left self.old) }
+        ensures short { IsErrOf result (Short (length self.old.whole)) ↔ EndsInText
+            (left self.old) }
+        ensures not_shortest { IsErrOf result (NotShortest self.old.at) ↔ IsLongNumber 9
+            (left self.old) }
         ensures not_text { IsErrOf result (NotText self.old.at) ↔ IsNoText (left self.old) }
-        ensures errors { IfErr result (λ e. (e ≡ Short (length self.old.whole)) ⊎ (e ≡ NotShortest self.old.at)
+        ensures errors { IfErr result
+            (λ e. (e ≡ Short (length self.old.whole)) ⊎ (e ≡ NotShortest self.old.at)
             ⊎ (e ≡ NotText self.old.at)) }
         ensures stays { OnErr result (self.new ≡ self.old) }
 
@@ -180,13 +200,17 @@ impl<'a> Reader<'a> {
     /// A text: the `var` of its length, and its bytes in UTF-8. Memory is taken only for bytes that are there.
     pub fn text(&mut self) -> Result<Text, FieldError>
         ensures value { IfOk result (λ t. IsUtf8 t × MovesPast (text_bytes t) self.old self.new) }
-        ensures only { (text rest : List ℕ) → IsUtf8 text → length text < 2 ^ 64 → left self.old ≡ text_bytes text ++ rest
+        ensures only { (text rest : List ℕ) → IsUtf8 text → length text < 2 ^ 64
+            → left self.old ≡ text_bytes text ++ rest
             → (result ≡ Ok text) ⊎ (result ≡ Err Memory) }
 
-        ensures short { IsErrOf result (Short (length self.old.whole)) ↔ EndsInText (left self.old) }
-        ensures not_shortest { IsErrOf result (NotShortest self.old.at) ↔ IsLongNumber 9 (left self.old) }
+        ensures short { IsErrOf result (Short (length self.old.whole)) ↔ EndsInText
+            (left self.old) }
+        ensures not_shortest { IsErrOf result (NotShortest self.old.at) ↔ IsLongNumber 9
+            (left self.old) }
         ensures not_text { IsErrOf result (NotText self.old.at) ↔ IsNoText (left self.old) }
-        ensures errors { IfErr result (λ e. (e ≡ Short (length self.old.whole)) ⊎ (e ≡ NotShortest self.old.at)
+        ensures errors { IfErr result
+            (λ e. (e ≡ Short (length self.old.whole)) ⊎ (e ≡ NotShortest self.old.at)
             ⊎ (e ≡ NotText self.old.at) ⊎ (e ≡ Memory)) }
         ensures stays { OnErr result (self.new ≡ self.old) }
 

@@ -57,9 +57,12 @@ fn run_event<P: OwnFiles>(
     event: &Event,
 ) -> Result<EventReply, Memory>
     requires { IsReady P.meaning port.old (looks_of looks.old.items) tasks.old }
-    ensures answered { IfOk result (λ reply. HasAnswered P.meaning port.old (looks_of looks.old.items) tasks.old event.now reply
+    ensures answered { IfOk result (λ reply.
+        HasAnswered P.meaning port.old (looks_of looks.old.items) tasks.old event.now reply
         port.new (looks_of looks.new.items) tasks.new) }
-    ensures stopped { OnErr result (MayHaveAnswered P.meaning port.old (looks_of looks.old.items) tasks.old event.now port.new) }
+    ensures stopped { OnErr result
+        (MayHaveAnswered P.meaning port.old
+        (looks_of looks.old.items) tasks.old event.now port.new) }
 {
     match event {
         Event::Push { batch, moment } => push(port, batch, *moment),
@@ -79,7 +82,9 @@ fn run_event<P: OwnFiles>(
 // Pushes a copy of a batch.
 fn push<P: LookPort>(port: &mut P, batch: &Batch, moment: u64) -> Result<EventReply, Memory>
     ensures answered { (looks : Looks) (tasks : Tasks) → IsReady P.meaning port.old looks tasks →
-        IfOk result (λ reply. HasAnswered P.meaning port.old looks tasks (Push batch.now moment) reply port.new looks tasks) }
+        IfOk result (λ reply.
+        HasAnswered P.meaning port.old looks tasks
+        (Push batch.now moment) reply port.new looks tasks) }
     ensures stopped { OnErr result (port.new ≡ port.old) }
 {
     let batch = batch.copy()?;
@@ -105,8 +110,10 @@ fn cut_all<P: FlushPort>(port: &mut P) -> EventReply
 // Makes the next step of the flush. After the end of a round stands a flush that has made none.
 fn flush_step<P: OwnFiles>(alloc: Global, port: &mut P, tasks: &mut Tasks) -> EventReply
     requires { (looks : Looks) × IsReady P.meaning port.old looks tasks.old }
-    ensures { (items : List (Option Given)) → IsReady P.meaning port.old (looks_of items) tasks.old →
-        HasAnswered P.meaning port.old (looks_of items) tasks.old FlushStep result port.new (looks_of items) tasks.new }
+    ensures { (items : List (Option Given))
+        → IsReady P.meaning port.old (looks_of items) tasks.old →
+        HasAnswered P.meaning port.old (looks_of items) tasks.old FlushStep result port.new
+        (looks_of items) tasks.new }
 {
     port.jobs_have_own_files();
     match tasks.flush.step(port) {
@@ -121,8 +128,10 @@ fn flush_step<P: OwnFiles>(alloc: Global, port: &mut P, tasks: &mut Tasks) -> Ev
 // Makes the next step of the compaction. After the end of a round stands a compaction that has made none.
 fn compact_step<P: OwnFiles>(alloc: Global, port: &mut P, tasks: &mut Tasks) -> EventReply
     requires { (looks : Looks) × IsReady P.meaning port.old looks tasks.old }
-    ensures { (items : List (Option Given)) → IsReady P.meaning port.old (looks_of items) tasks.old →
-        HasAnswered P.meaning port.old (looks_of items) tasks.old CompactStep result port.new (looks_of items)
+    ensures { (items : List (Option Given))
+        → IsReady P.meaning port.old (looks_of items) tasks.old →
+        HasAnswered P.meaning port.old (looks_of items) tasks.old CompactStep result port.new
+        (looks_of items)
         tasks.new }
 {
     port.jobs_have_own_files();
@@ -137,11 +146,15 @@ fn compact_step<P: OwnFiles>(alloc: Global, port: &mut P, tasks: &mut Tasks) -> 
 
 // Takes a look.
 fn take_look<P: LookPort>(port: &mut P, looks: &mut Vec<Option<Look>>) -> Result<EventReply, Memory>
-    ensures answered { (tasks : Tasks) → IsReady P.meaning port.old (looks_of looks.old.items) tasks →
-        IfOk result (λ reply. HasAnswered P.meaning port.old (looks_of looks.old.items) tasks TakeLook reply
+    ensures answered { (tasks : Tasks)
+        → IsReady P.meaning port.old (looks_of looks.old.items) tasks →
+        IfOk result (λ reply.
+        HasAnswered P.meaning port.old (looks_of looks.old.items) tasks TakeLook reply
         port.new (looks_of looks.new.items) tasks) }
-    ensures stopped { (tasks : Tasks) → IsReady P.meaning port.old (looks_of looks.old.items) tasks →
-        OnErr result (MayHaveAnswered P.meaning port.old (looks_of looks.old.items) tasks TakeLook port.new) }
+    ensures stopped { (tasks : Tasks)
+        → IsReady P.meaning port.old (looks_of looks.old.items) tasks →
+        OnErr result (MayHaveAnswered P.meaning port.old
+        (looks_of looks.old.items) tasks TakeLook port.new) }
 {
     let look = match port.look() {
         Ok(look) => look,
@@ -166,10 +179,12 @@ fn read_page<P: FlushPort>(
 ) -> Result<EventReply, Memory>
     requires { (tasks : Tasks) × IsReady P.meaning port.old (looks_of looks.now) tasks }
     ensures answered { (tasks : Tasks) → IsReady P.meaning port.old (looks_of looks.now) tasks →
-        IfOk result (λ reply. HasAnswered P.meaning port.old (looks_of looks.now) tasks (Page number block page) reply
+        IfOk result (λ reply.
+        HasAnswered P.meaning port.old (looks_of looks.now) tasks (Page number block page) reply
         port.new (looks_of looks.now) tasks) }
     ensures stopped { (tasks : Tasks) → IsReady P.meaning port.old (looks_of looks.now) tasks →
-        OnErr result (MayHaveAnswered P.meaning port.old (looks_of looks.now) tasks (Page number block page) port.new) }
+        OnErr result (MayHaveAnswered P.meaning port.old (looks_of looks.now) tasks
+        (Page number block page) port.new) }
 {
     let Some(look) = look_with(looks, number, block) else {
         return Ok(EventReply::Idle);

@@ -20,24 +20,29 @@ use store_core::Core;
 /// Calls that were made on a core are legal from each machine that it stood for, and the core then stands for the
 /// machine that they leave; and so of the machines that its memory shows, whatever its disk holds.
 pub fn calls_are_steps<D: Device>(old: &Core<D>, new: &Core<D>)
-    ensures stands { (calls : List Call) → AreMade (port_of D.Device.own) old.now calls new.now → (m : Machine)
+    ensures stands { (calls : List Call) → AreMade (port_of D.Device.own) old.now calls new.now
+        → (m : Machine)
         → CoreStandsFor D.Device.own old.now m
         → HasStepped D.Device.own (CoreStandsFor D.Device.own) old.now calls new.now m }
-    ensures shown { (calls : List Call) → AreMade (port_of D.Device.own) old.now calls new.now → (m : Machine)
+    ensures shown { (calls : List Call) → AreMade (port_of D.Device.own) old.now calls new.now
+        → (m : Machine)
         → CoreShows D.Device.own old.now m
         → HasStepped D.Device.own (CoreShows D.Device.own) old.now calls new.now m }
     // What was left since an earlier disk goes on standing for the history at some length.
-    ensures since { (calls : List Call) → AreMade (port_of D.Device.own) old.now calls new.now → (m : Machine)
+    ensures since { (calls : List Call) → AreMade (port_of D.Device.own) old.now calls new.now
+        → (m : Machine)
         → (start : D) (least : ℕ) → StandsSince D.Device.own start least old.now m
         → HasStepped D.Device.own (StandsSince D.Device.own start least) old.now calls new.now m }
-    ensures unsure { (calls : List Call) → AreMade (port_of D.Device.own) old.now calls new.now → (m : Machine)
+    ensures unsure { (calls : List Call) → AreMade (port_of D.Device.own) old.now calls new.now
+        → (m : Machine)
         → CoreStandsFor D.Device.own old.now m
         → unsure_of new.now.state ≡ unsure_after_calls calls (unsure_of old.now.state) }
 {}
 
 /// On a core whose memory shows a machine no two looks that are open share a pin. So giving one back ends no other.
 pub fn looks_have_their_own_pins<D: Device>(old: &Core<D>, new: &Core<D>)
-    ensures { (calls : List Call) → AreMade (port_of D.Device.own) old.now calls new.now → (m : Machine)
+    ensures { (calls : List Call) → AreMade (port_of D.Device.own) old.now calls new.now
+        → (m : Machine)
         → CoreShows D.Device.own old.now m → HaveOwnPins (after_calls calls []) }
 {}
 

@@ -17,7 +17,8 @@ use store_state::{Look, Pin};
 pub(crate) fn end_look(looks: &mut Vec<Option<Look>>, number: u64) -> Option<Look>
     ensures closed { IfNone result ((look_at number (looks_of looks.old.items) ≡ None)
         × (looks_of looks.new.items ≡ looks_of looks.old.items)) }
-    ensures open { IfSome result (λ look. look_at number (looks_of looks.old.items) ≡ Some (look_of look)) }
+    ensures open { IfSome result
+        (λ look. look_at number (looks_of looks.old.items) ≡ Some (look_of look)) }
     ensures ended { IfSome result (λ look. looks_of looks.new.items
         ≡ map (unless_ended (call (Done look.pin.number) Fine)) (looks_of looks.old.items)) }
 {
@@ -33,7 +34,8 @@ pub(crate) fn end_look(looks: &mut Vec<Option<Look>>, number: u64) -> Option<Loo
 
 // No look under this pin is open any more.
 fn end_pin(looks: &mut Vec<Option<Look>>, pin: u64)
-    ensures { looks_of looks.new.items ≡ map (unless_ended (call (Done pin) Fine)) (looks_of looks.old.items) }
+    ensures { looks_of looks.new.items
+        ≡ map (unless_ended (call (Done pin) Fine)) (looks_of looks.old.items) }
 {
     for at in 0..looks.len() {
         end_one(&mut looks[at], pin);
@@ -42,7 +44,8 @@ fn end_pin(looks: &mut Vec<Option<Look>>, pin: u64)
 
 // The look is open no more, if it is under this pin.
 fn end_one(look: &mut Option<Look>, pin: u64)
-    ensures { option_map look_of look.new ≡ unless_ended (call (Done pin) Fine) (option_map look_of look.old) }
+    ensures { option_map look_of look.new
+        ≡ unless_ended (call (Done pin) Fine) (option_map look_of look.old) }
 {
     if is_under(look, pin) {
         *look = None;
@@ -62,7 +65,8 @@ fn is_under(look: &Option<Look>, pin: u64) -> bool
 // The look with this number, if it is open and its pin names the block.
 pub(crate) fn look_with(looks: &[Option<Look>], number: u64, block: u32) -> Option<&Look>
     ensures none { IfNone result (NamesNo (look_at number (looks_of looks.now)) block) }
-    ensures open { IfSome result (λ look. look_at number (looks_of looks.now) ≡ Some (look_of look.now)) }
+    ensures open { IfSome result
+        (λ look. look_at number (looks_of looks.now) ≡ Some (look_of look.now)) }
     ensures named { IfSome result (λ look. is_among block (info_files look.now.pin.blocks) ≡ true) }
 {
     let look = open_look(looks, number)?;
@@ -76,7 +80,8 @@ pub(crate) fn look_with(looks: &[Option<Look>], number: u64, block: u32) -> Opti
 // The look with this number, if it is open.
 fn open_look(looks: &[Option<Look>], number: u64) -> Option<&Look>
     ensures none { IfNone result (look_at number (looks_of looks.now) ≡ None) }
-    ensures open { IfSome result (λ look. look_at number (looks_of looks.now) ≡ Some (look_of look.now)) }
+    ensures open { IfSome result
+        (λ look. look_at number (looks_of looks.now) ≡ Some (look_of look.now)) }
 {
     if number >= looks.len() as u64 {
         return None;

@@ -28,7 +28,8 @@ pub(crate) fn glance_of(
     entry: &StripeInfo,
     sifter: &Sifter<'_, '_>,
 ) -> Option<Glance>
-    ensures told { IfSome result (λ g. (extended : Bool) → TellsIfRead IsGlance (stripe_at extended bytes.now) g) }
+    ensures told { IfSome result (λ g. (extended : Bool)
+        → TellsIfRead IsGlance (stripe_at extended bytes.now) g) }
     ensures rows { IfSome result HasRows }
 {
     if sifter.hint().text.is_some() && sifter.is_hint() {

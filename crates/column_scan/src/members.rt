@@ -19,7 +19,8 @@ use traceql_types::Checked;
 /// Without a text, and with moments out of the range, there are no members: the span that the filter keeps needn't be
 /// the one that starts in the range. The one error is out of memory.
 pub fn sieve<'q>(alloc: Global, checked: &'q Checked, range: Range) -> Result<Sieve<'q>, Memory>
-    ensures { IfOk result (λ s. s ≡ sieve_of checked.now.patterns (query_tree checked.now.query) range) }
+    ensures { IfOk result
+        (λ s. s ≡ sieve_of checked.now.patterns (query_tree checked.now.query) range) }
 {
     let hint = hint(checked, range)?;
     let members = kept_members(alloc, &hint, &checked.query.spansets)?;
@@ -61,7 +62,8 @@ fn has_all_moments(range: Range) -> bool
 
 // An operator between spansets has none: which of its sides a span has to meet isn't asked here.
 fn set_members<'q>(alloc: Global, spansets: &'q SpansetExpr) -> Result<Vec<&'q FieldExpr>, Memory>
-    ensures { IfOk result (λ members. trees_of members.items ≡ set_members (set_tree spansets.now)) }
+    ensures { IfOk result
+        (λ members. trees_of members.items ≡ set_members (set_tree spansets.now)) }
 {
     match spansets {
         SpansetExpr::Filter { condition, .. } => filter_members(alloc, condition),
@@ -74,7 +76,8 @@ fn filter_members<'q>(
     alloc: Global,
     condition: &'q Option<Operand>,
 ) -> Result<Vec<&'q FieldExpr>, Memory>
-    ensures { IfOk result (λ members. trees_of members.items ≡ filter_members (placed_option condition.now)) }
+    ensures { IfOk result
+        (λ members. trees_of members.items ≡ filter_members (placed_option condition.now)) }
 {
     match condition {
         None => Ok(Vec::new(alloc)),
@@ -99,7 +102,8 @@ fn column_members<'q>(alloc: Global, expr: &'q FieldExpr) -> Result<Vec<&'q Fiel
 
 // Adds a member, if it asks for columns alone.
 fn add_columns<'q>(expr: &'q FieldExpr, members: &mut Vec<&'q FieldExpr>) -> Result<(), Memory>
-    ensures { OnOk result (trees_of members.new.items ≡ trees_of members.old.items ++ if_columns (tree expr.now)) }
+    ensures { OnOk result
+        (trees_of members.new.items ≡ trees_of members.old.items ++ if_columns (tree expr.now)) }
 {
     if reads_columns(expr) {
         members.push(expr)?;

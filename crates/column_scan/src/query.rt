@@ -74,8 +74,10 @@ pub(crate) fn sides(expr: &FieldExpr) -> Option<(&FieldExpr, &FieldExpr)>
         (λ p. (chain_text (tree expr.now)
         ≡ option_or (chain_text (tree p.0.now)) (member_text (tree p.1.now)))
         × (tree_size (tree p.0.now) < tree_size (tree expr.now))) }
-    ensures members { MatchOption result (column_members (tree expr.now) ≡ if_columns (tree expr.now))
-        (λ p. column_members (tree expr.now) ≡ column_members (tree p.0.now) ++ if_columns (tree p.1.now)) }
+    ensures members { MatchOption result
+        (column_members (tree expr.now) ≡ if_columns (tree expr.now))
+        (λ p. column_members (tree expr.now)
+        ≡ column_members (tree p.0.now) ++ if_columns (tree p.1.now)) }
 {
     match expr {
         FieldExpr::Binary {

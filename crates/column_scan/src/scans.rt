@@ -60,7 +60,8 @@ pub fn scan_stripes<P: Pages>(
         → progress.next < length info.now.stripes → IsSome progress.last) }
     ensures same { sifter.new ≡ sifter.old }
     ensures its_file { IsInFile block result }
-    ensures reads { RoseAtMost (scanned_pages sifter.old.hint (gone_through from result info.now.stripes))
+    ensures reads { RoseAtMost
+        (scanned_pages sifter.old.hint (gone_through from result info.now.stripes))
         (P.reads pages.old) (P.reads pages.new) }
     ensures only { OnlyReads P.tells P.held P.faults P.ready P.went P.name
         pages.old (is_fault result) pages.new }

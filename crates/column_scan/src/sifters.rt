@@ -90,7 +90,8 @@ impl<'s, 'q> Sifter<'s, 'q> {
 
     /// Whether the members are so of each span that has these columns.
     pub(crate) fn meets_columns(&mut self, columns: Columns) -> Result<bool, Memory>
-        ensures value { IfOk result (λ b. (s : Span) → HasColumns s columns → b ≡ meets_members self.old s) }
+        ensures value { IfOk result (λ b. (s : Span) → HasColumns s columns
+            → b ≡ meets_members self.old s) }
         ensures same { self.new ≡ self.old }
     {
         let members = self.sieve.members();
@@ -140,7 +141,8 @@ impl<'s, 'q> Tester<'s, 'q> {
     // Whether all conditions are so of a span.
     fn are_so(&mut self, members: &[&FieldExpr], span: &Span) -> Result<bool, Memory>
         ensures value { IfOk result (λ b. b ≡ list_all (λ e.
-            is_so (context_patterns self.old.context) (context_rows self.old.context) span.now (tree e.now)) members.now) }
+            is_so (context_patterns self.old.context) (context_rows self.old.context) span.now
+            (tree e.now)) members.now) }
         ensures same { IsSame self.old.context self.new.context }
     {
         are_so(&mut self.context, members, span)
@@ -149,7 +151,8 @@ impl<'s, 'q> Tester<'s, 'q> {
     // Whether all conditions are so of the thin span with these columns.
     fn are_so_of(&mut self, members: &[&FieldExpr], columns: Columns) -> Result<bool, Memory>
         ensures value { IfOk result (λ b. (s : Span) × HasColumns s columns × (b ≡ list_all (λ e.
-            is_so (context_patterns self.old.context) (context_rows self.old.context) s (tree e.now)) members.now)) }
+            is_so (context_patterns self.old.context) (context_rows self.old.context) s
+            (tree e.now)) members.now)) }
         ensures same { IsSame self.old.context self.new.context }
     {
         fill(&mut self.thin, columns);
@@ -164,7 +167,8 @@ fn are_so(
     span: &Span,
 ) -> Result<bool, Memory>
     ensures value { IfOk result (λ b. b ≡ list_all (λ e.
-        is_so (context_patterns context.old) (context_rows context.old) span.now (tree e.now)) members.now) }
+        is_so (context_patterns context.old) (context_rows context.old) span.now
+        (tree e.now)) members.now) }
     ensures same { IsSame context.old context.new }
 {
     for member in members {

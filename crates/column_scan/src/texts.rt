@@ -16,7 +16,8 @@ use std::alloc::Global;
 
 // Whether no row of a stripe can hold the hint's text, by the texts that the stripe begins with. False says nothing.
 pub fn lacks_text(alloc: Global, bytes: &[u8], hint: &Hint) -> bool
-    ensures { IsTrue result → (extended : Bool) (rows : List Row) → stripe_at extended bytes.now ≡ Ok rows
+    ensures { IsTrue result → (extended : Bool) (rows : List Row)
+        → stripe_at extended bytes.now ≡ Ok rows
         → hinted_picks hint.now (spans_of rows) ≡ [] }
 {
     let Some(text) = &hint.text else {

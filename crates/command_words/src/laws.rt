@@ -13,12 +13,14 @@ ghost use Rattle.command_words.specs.Table.{words_app};
 /// Laws of what words ask. By `clap`'s own definition words have no fault exactly where they ask something.
 pub fn what_words_spell()
     // `clap` finds nothing at fault in words that ask something.
-    ensures clean { (words : List (List ℕ)) (c : Command) → Spells words c → fault_of words_app words ≡ [] }
+    ensures clean { (words : List (List ℕ)) (c : Command) → Spells words c
+        → fault_of words_app words ≡ [] }
     // Words without fault ask something, where each is UTF-8.
     ensures some { (words : List (List ℕ)) → All IsUtf8 words → fault_of words_app words ≡ []
         → (c : Command) × Spells words c }
     // They ask one thing alone.
-    ensures one { (words : List (List ℕ)) (c d : Command) → Spells words c → Spells words d → c ≡ d }
+    ensures one { (words : List (List ℕ)) (c d : Command) → Spells words c → Spells words d
+        → c ≡ d }
     // Words that are those of a search as the documents write it ask for it.
     ensures taken { (words : List (List ℕ)) (given : Given) → IsTaken given words
         → Spells words (Alone (search_line given)) }

@@ -44,7 +44,9 @@ pub(crate) fn search_line(
 
 // Puts an option after a text, and a space after it.
 fn push_option(line: &mut String, name: &str, value: Option<&str>) -> Result<(), AllocError>
-    ensures { OnOk result (string_bytes line.new ≡ string_bytes line.old ++ option_text name.now (option_map (λ s. s.now) value.entry)) }
+    ensures { OnOk result
+        (string_bytes line.new
+        ≡ string_bytes line.old ++ option_text name.now (option_map (λ s. s.now) value.entry)) }
 {
     if let Some(value) = value {
         line.push_str(name)?;

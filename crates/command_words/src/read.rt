@@ -21,7 +21,8 @@ pub fn read_words(alloc: Global, words: &[String]) -> Result<Asked, WordsError>
     // What is read is what the words ask.
     ensures asked { IfOk result (λ asked. Spells (map string_bytes words.now) (command_of asked)) }
     // Words are refused only where `clap` finds something at fault in them.
-    ensures refused { result ≡ Err WordsError.Refused → fault_of words_app (map string_bytes words.now) ≢ [] }
+    ensures refused { result ≡ Err WordsError.Refused
+        → fault_of words_app (map string_bytes words.now) ≢ [] }
 {
     let matches = matches_of(alloc, words)?;
     let Some((name, given)) = matches.subcommand() else {
@@ -38,9 +39,12 @@ pub fn read_words(alloc: Global, words: &[String]) -> Result<Asked, WordsError>
 
 // What `clap` makes of the words.
 fn matches_of<'a>(alloc: Global, words: &'a [String]) -> Result<ArgMatches<'a>, WordsError>
-    ensures no_fault { IfOk result (λ _. fault_of words_app (map string_bytes words.entry.now) ≡ []) }
-    ensures refused { result ≡ Err WordsError.Refused → fault_of words_app (map string_bytes words.entry.now) ≢ [] }
-    ensures found { IfOk result (λ m. subcommand_rows_of m ≡ subcommand_of words_app (map string_bytes words.entry.now)) }
+    ensures no_fault { IfOk result
+        (λ _. fault_of words_app (map string_bytes words.entry.now) ≡ []) }
+    ensures refused { result ≡ Err WordsError.Refused
+        → fault_of words_app (map string_bytes words.entry.now) ≢ [] }
+    ensures found { IfOk result
+        (λ m. subcommand_rows_of m ≡ subcommand_of words_app (map string_bytes words.entry.now)) }
 {
     let Ok(command) = whole_command(alloc) else {
         return Err(WordsError::Memory);

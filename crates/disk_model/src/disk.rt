@@ -46,52 +46,72 @@ pub trait Device: Drop {
 
     /// The length of a file, in bytes.
     fn len(&mut self, file: u32) -> Result<u64, Failed>
-        ensures length { IsTrue (tells self.old) → IfOk result (λ len. len ≡ length (bytes_of (held self.old) file)) }
+        ensures length { IsTrue (tells self.old)
+            → IfOk result (λ len. len ≡ length (bytes_of (held self.old) file)) }
         ensures same_bytes { IsTrue (tells self.old) → SameBytes (held self.old) (held self.new) }
         ensures crash { Within (may_leave self.old) (may_leave self.new) }
-        ensures time { Elapses (moment self.old) (moment self.new) (left_since self.old) (left_since self.new) (may_leave self.new) }
+        ensures time { Elapses (moment self.old) (moment self.new) (left_since self.old)
+            (left_since self.new) (may_leave self.new) }
         ensures counted { IsOneCall tells faults calls reads far_writes Plain self.old self.new result };
 
     /// Fills the buffer from a file, from the byte `at` on, and answers how many bytes it read: those up to the
     /// buffer's end or the file's, and none past the file's end. What an `Err` leaves in the buffer is open.
     fn read(&mut self, file: u32, at: u64, buf: &mut [u8]) -> Result<usize, Failed>
-        ensures count { IsTrue (tells self.old) → IfOk result (λ count. count ≡ min (length buf.old) (length (bytes_of (held self.old) file) - at)) }
-        ensures bytes { IsTrue (tells self.old) → IfOk result (λ count. buf.new ≡ take count (drop at (bytes_of (held self.old) file)) ++ drop count buf.old) }
+        ensures count { IsTrue (tells self.old)
+            → IfOk result (λ count.
+            count ≡ min (length buf.old) (length (bytes_of (held self.old) file) - at)) }
+        ensures bytes { IsTrue (tells self.old)
+            → IfOk result (λ count.
+            buf.new ≡ take count (drop at (bytes_of (held self.old) file)) ++ drop count buf.old) }
         ensures fits { IfOk result (λ count. count ≤ length buf.old) }
         ensures same_bytes { IsTrue (tells self.old) → SameBytes (held self.old) (held self.new) }
         ensures crash { Within (may_leave self.old) (may_leave self.new) }
-        ensures time { Elapses (moment self.old) (moment self.new) (left_since self.old) (left_since self.new) (may_leave self.new) }
+        ensures time { Elapses (moment self.old) (moment self.new) (left_since self.old)
+            (left_since self.new) (may_leave self.new) }
         ensures counted { IsOneCall tells faults calls reads far_writes Reading self.old self.new result };
 
     /// Writes the bytes into a file, from the byte `at` on. Places between the old end and `at` become zeros; to write
     /// no bytes changes nothing. No file is let grow to 2^63 bytes: such a write fails, and the disk is as before.
     /// Until a sync of the file, a crash may leave any bytes in the range, also where the call failed.
     fn write(&mut self, file: u32, at: u64, bytes: &[u8]) -> Result<(), Failed>
-        ensures written { IsTrue (tells self.old) → OnOk result (bytes_of (held self.new) file ≡ overwritten (bytes_of (held self.old) file) at bytes.now) }
+        ensures written { IsTrue (tells self.old)
+            → OnOk result (bytes_of (held self.new) file
+            ≡ overwritten (bytes_of (held self.old) file) at bytes.now) }
         ensures near { OnOk result (at + length bytes.now < 2 ^ 63) }
-        ensures far_bytes { IsTrue (tells self.old) → 2 ^ 63 ≤ at + length bytes.now → SameBytes (held self.old) (held self.new) }
-        ensures far_crash { 2 ^ 63 ≤ at + length bytes.now → Within (may_leave self.old) (may_leave self.new) }
+        ensures far_bytes { IsTrue (tells self.old) → 2 ^ 63 ≤ at + length bytes.now
+            → SameBytes (held self.old) (held self.new) }
+        ensures far_crash { 2 ^ 63 ≤ at + length bytes.now
+            → Within (may_leave self.old) (may_leave self.new) }
         ensures besides { IsTrue (tells self.old) → Besides file (held self.old) (held self.new) }
-        ensures crash { Follows (OnFile file (Torn at (length bytes.now))) (may_leave self.old) (may_leave self.new) }
-        ensures time { Elapses (moment self.old) (moment self.new) (left_since self.old) (left_since self.new) (may_leave self.new) }
-        ensures counted { IsOneCall tells faults calls reads far_writes (Writing (at + length bytes.now)) self.old self.new result };
+        ensures crash { Follows (OnFile file (Torn at (length bytes.now))) (may_leave self.old)
+            (may_leave self.new) }
+        ensures time { Elapses (moment self.old) (moment self.new) (left_since self.old)
+            (left_since self.new) (may_leave self.new) }
+        ensures counted { IsOneCall tells faults calls reads far_writes
+            (Writing (at + length bytes.now)) self.old self.new result };
 
     /// Drops what a file has from the byte `len` on, which may be nothing. Until a sync of the file, a crash may leave
     /// any length between the two and any bytes past `len`, also where the call failed.
     fn cut(&mut self, file: u32, len: u64) -> Result<(), Failed>
-        ensures shortened { IsTrue (tells self.old) → OnOk result (bytes_of (held self.new) file ≡ take len (bytes_of (held self.old) file)) }
+        ensures shortened { IsTrue (tells self.old)
+            → OnOk result (bytes_of (held self.new) file
+            ≡ take len (bytes_of (held self.old) file)) }
         ensures besides { IsTrue (tells self.old) → Besides file (held self.old) (held self.new) }
-        ensures crash { Follows (OnFile file (HalfCut len)) (may_leave self.old) (may_leave self.new) }
-        ensures time { Elapses (moment self.old) (moment self.new) (left_since self.old) (left_since self.new) (may_leave self.new) }
+        ensures crash { Follows (OnFile file (HalfCut len)) (may_leave self.old)
+            (may_leave self.new) }
+        ensures time { Elapses (moment self.old) (moment self.new) (left_since self.old)
+            (left_since self.new) (may_leave self.new) }
         ensures counted { IsOneCall tells faults calls reads far_writes Plain self.old self.new result };
 
     /// Makes what a file holds last: after an `Ok` a crash can leave nothing else of it, and after an `Err` whatever it
     /// could leave before.
     fn sync(&mut self, file: u32) -> Result<(), Failed>
-        ensures lasting { IsTrue (tells self.old) → OnOk result (OnlyBytes file (bytes_of (held self.new) file) (may_leave self.new)) }
+        ensures lasting { IsTrue (tells self.old)
+            → OnOk result (OnlyBytes file (bytes_of (held self.new) file) (may_leave self.new)) }
         ensures same_bytes { IsTrue (tells self.old) → SameBytes (held self.old) (held self.new) }
         ensures crash { Within (may_leave self.old) (may_leave self.new) }
-        ensures time { Elapses (moment self.old) (moment self.new) (left_since self.old) (left_since self.new) (may_leave self.new) }
+        ensures time { Elapses (moment self.old) (moment self.new) (left_since self.old)
+            (left_since self.new) (may_leave self.new) }
         ensures counted { IsOneCall tells faults calls reads far_writes Plain self.old self.new result };
 
     /// The count of failed calls, which is at hand: the device isn't asked for it.

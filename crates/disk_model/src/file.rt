@@ -79,7 +79,9 @@ impl File {
 
     /// It at the pick's length, with the pick's byte at each offset that isn't certain.
     fn filled(&self, alloc: Global, pick: u64, seed: u64) -> Result<Vec<u8>, AllocError>
-        ensures { IfOk result (λ bytes. bytes.items ≡ filled self.now (byte_of pick seed self.now) (picked_length pick self.now.least self.now.greatest seed)) }
+        ensures { IfOk result
+            (λ bytes. bytes.items ≡ filled self.now (byte_of pick seed self.now)
+            (picked_length pick self.now.least self.now.greatest seed)) }
     {
         let len = picked_length(pick, self.least, self.greatest, seed);
         let mut bytes = Vec::with_capacity(alloc, len as usize)?;
@@ -197,7 +199,8 @@ fn overwrite(held: &mut Vec<u8>, at: usize, bytes: &[u8]) -> Result<(), AllocErr
 
 /// Makes a list at least that long, with zeros at its end.
 fn fill_to(held: &mut Vec<u8>, len: usize) -> Result<(), AllocError>
-    ensures ok { OnOk result (held.new.items ≡ held.old.items ++ replicate (len - length held.old.items) 0) }
+    ensures ok { OnOk result
+        (held.new.items ≡ held.old.items ++ replicate (len - length held.old.items) 0) }
     ensures err { OnErr result (held.new.items ≡ held.old.items) }
 {
     if held.len() < len {

@@ -68,8 +68,10 @@ impl History {
 
     /// What a crash may leave of the files, by the pick, as what they hold at first.
     pub fn image(&self, pick: u64) -> Result<History, AllocError>
-        ensures first { IfOk result (λ other. other ≡ record { first = other.first; changes = [] }) }
-        ensures picked { IfOk result (λ other. (file : ℕ) → bytes_of other.first file ≡ picked pick file (state_of (files_now self.now) file)) }
+        ensures first { IfOk result
+            (λ other. other ≡ record { first = other.first; changes = [] }) }
+        ensures picked { IfOk result (λ other. (file : ℕ)
+            → bytes_of other.first file ≡ picked pick file (state_of (files_now self.now) file)) }
     {
         let (first, files) = picked_files(self.alloc, &self.files, pick)?;
         Ok(History {
@@ -96,8 +98,10 @@ impl History {
 /// Makes a change to its file.
 fn apply(alloc: Global, files: &mut Vec<(u32, File)>, change: &Change) -> Result<(), AllocError>
     requires { IsInRange change.now }
-    ensures ok { OnOk result ((file : ℕ) → state_of files.new.items file ≡ state_of (after files.old.items change.now) file) }
-    ensures err { OnErr result ((file : ℕ) → state_of files.new.items file ≡ state_of files.old.items file) }
+    ensures ok { OnOk result ((file : ℕ)
+        → state_of files.new.items file ≡ state_of (after files.old.items change.now) file) }
+    ensures err { OnErr result ((file : ℕ)
+        → state_of files.new.items file ≡ state_of files.old.items file) }
 {
     let place = place_of(alloc, files, change.file())?;
     let entry = &mut files[place];

@@ -12,6 +12,7 @@ use crate::Device;
 /// After changes of one file every image still has in another file what every image had there before.
 pub fn other_files_stay<D: Device>(_disk: &D)
     ensures { (old new : D) (file other : ℕ) (bytes : List ℕ) → other ≢ file
-        → OnlyBytes other bytes (D.may_leave old) → Follows (Besides file) (D.may_leave old) (D.may_leave new)
+        → OnlyBytes other bytes (D.may_leave old)
+        → Follows (Besides file) (D.may_leave old) (D.may_leave new)
         → OnlyBytes other bytes (D.may_leave new) }
 {}

@@ -78,9 +78,14 @@ impl MemDisk {
     /// number determines.
     pub fn image(&self, pick: u64) -> Result<MemDisk, Memory>
         ensures fresh { IfOk result (λ other. other ≡ fresh (past_of other).first) }
-        ensures nothing_pending { IfOk result (λ other. (file : ℕ) → state_of (files_now (past_of other)) file ≡ settled (bytes_of (held_now (past_of other)) file)) }
-        ensures one_of_them { IfOk result (λ other. MayLeave (past_of self.now) (held_now (past_of other))) }
-        ensures picked { IfOk result (λ other. (file : ℕ) → bytes_of (held_now (past_of other)) file ≡ picked pick file (state_of (files_now (past_of self.now)) file)) }
+        ensures nothing_pending { IfOk result (λ other. (file : ℕ)
+            → state_of (files_now (past_of other)) file
+            ≡ settled (bytes_of (held_now (past_of other)) file)) }
+        ensures one_of_them { IfOk result
+            (λ other. MayLeave (past_of self.now) (held_now (past_of other))) }
+        ensures picked { IfOk result (λ other. (file : ℕ)
+            → bytes_of (held_now (past_of other)) file
+            ≡ picked pick file (state_of (files_now (past_of self.now)) file)) }
     {
         Ok(MemDisk {
             history: self.history.image(pick)?,
@@ -116,7 +121,8 @@ impl MemDisk {
 
     /// The length of a file. It fails exactly where it is listed or stopped.
     pub fn len(&mut self, file: u32) -> Result<u64, Failed>
-        ensures length { IfOk result (λ len. len ≡ length (bytes_of (held_now (past_of self.old)) file)) }
+        ensures length { IfOk result
+            (λ len. len ≡ length (bytes_of (held_now (past_of self.old)) file)) }
         ensures answer { Answer self.old (λ disk. disk) result self.new }
     {
         match self.next_fate() {
@@ -127,8 +133,12 @@ impl MemDisk {
 
     /// Reads a file into the buffer. It fails exactly where it is listed or stopped, and leaves the buffer then.
     pub fn read(&mut self, file: u32, at: u64, buf: &mut [u8]) -> Result<usize, Failed>
-        ensures count { IfOk result (λ count. count ≡ min (length buf.old) (length (bytes_of (held_now (past_of self.old)) file) - at)) }
-        ensures bytes { IfOk result (λ count. buf.new ≡ take count (drop at (bytes_of (held_now (past_of self.old)) file)) ++ drop count buf.old) }
+        ensures count { IfOk result
+            (λ count. count ≡ min (length buf.old)
+            (length (bytes_of (held_now (past_of self.old)) file) - at)) }
+        ensures bytes { IfOk result
+            (λ count. buf.new ≡ take count (drop at (bytes_of (held_now (past_of self.old)) file))
+            ++ drop count buf.old) }
         ensures answer { Answer self.old read_once result self.new }
         ensures left_alone { OnErr result (buf.new ≡ buf.old) }
     {
@@ -141,8 +151,11 @@ impl MemDisk {
 
     /// Writes into a file. It fails exactly where it is listed or stopped, ends at 2^63 or more, or memory runs out.
     pub fn write(&mut self, file: u32, at: u64, bytes: &[u8]) -> Result<(), Failed>
-        ensures near { at + length bytes.now < 2 ^ 63 → Outcome self.old (noted (Write file at bytes.now)) (noted (LostWrite file at (length bytes.now))) result self.new }
-        ensures far { 2 ^ 63 ≤ at + length bytes.now → IsErr result × (self.new ≡ refused self.old) }
+        ensures near { at + length bytes.now < 2 ^ 63
+            → Outcome self.old (noted (Write file at bytes.now))
+            (noted (LostWrite file at (length bytes.now))) result self.new }
+        ensures far { 2 ^ 63 ≤ at + length bytes.now
+            → IsErr result × (self.new ≡ refused self.old) }
     {
         if ends_below(at, bytes.len()) {
             return self.write_near(file, at, bytes);
@@ -154,7 +167,8 @@ impl MemDisk {
 
     /// Cuts a file. It fails exactly where it is listed or stopped, or memory runs out.
     pub fn cut(&mut self, file: u32, len: u64) -> Result<(), Failed>
-        ensures outcome { Outcome self.old (noted (Cut file len)) (noted (LostCut file len)) result self.new }
+        ensures outcome { Outcome self.old (noted (Cut file len))
+            (noted (LostCut file len)) result self.new }
     {
         match self.next_fate() {
             Fate::Stopped => self.fail(),
@@ -201,7 +215,8 @@ impl MemDisk {
     /// A write whose end is below 2^63.
     fn write_near(&mut self, file: u32, at: u64, bytes: &[u8]) -> Result<(), Failed>
         requires { at + length bytes.now < 2 ^ 63 }
-        ensures outcome { Outcome self.old (noted (Write file at bytes.now)) (noted (LostWrite file at (length bytes.now))) result self.new }
+        ensures outcome { Outcome self.old (noted (Write file at bytes.now))
+            (noted (LostWrite file at (length bytes.now))) result self.new }
     {
         match self.next_fate() {
             Fate::Stopped => self.fail(),
@@ -231,7 +246,8 @@ impl MemDisk {
     /// Counts a fault for lack of memory.
     fn starve<T>(&mut self) -> Result<T, Failed>
         ensures fails { IsErr result }
-        ensures after { self.new ≡ record self.old { faults = raised self.old.faults; starved = raised self.old.starved } }
+        ensures after { self.new
+            ≡ record self.old { faults = raised self.old.faults; starved = raised self.old.starved } }
     {
         self.starved = self.starved.saturating_add(1);
         self.fail()

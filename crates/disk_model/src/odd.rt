@@ -114,7 +114,8 @@ impl Device for OddDisk {
 
 /// Fills a buffer with a chunk, which is cut or filled with zeros to its length.
 fn fill(buf: &mut [u8], chunk: &[u8])
-    ensures { buf.new ≡ take (length buf.old) chunk.now ++ replicate (length buf.old - length chunk.now) 0 }
+    ensures { buf.new ≡ take (length buf.old) chunk.now
+        ++ replicate (length buf.old - length chunk.now) 0 }
 {
     let count = chunk.len().min(buf.len());
     buf[..count].copy_from_slice(&chunk[..count]);

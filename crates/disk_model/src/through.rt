@@ -16,17 +16,24 @@ pub fn write_through<D: Device>(
     at: u64,
     bytes: &[u8],
 ) -> Result<(), Failed>
-    ensures written { IsTrue (D.tells disk.old) → OnOk result (bytes_of (D.held disk.new) file ≡ overwritten (bytes_of (D.held disk.old) file) at bytes.now) }
-    ensures lasting { IsTrue (D.tells disk.old) → OnOk result (OnlyBytes file (bytes_of (D.held disk.new) file) (D.may_leave disk.new)) }
+    ensures written { IsTrue (D.tells disk.old)
+        → OnOk result (bytes_of (D.held disk.new) file
+        ≡ overwritten (bytes_of (D.held disk.old) file) at bytes.now) }
+    ensures lasting { IsTrue (D.tells disk.old)
+        → OnOk result (OnlyBytes file (bytes_of (D.held disk.new) file) (D.may_leave disk.new)) }
     ensures near { OnOk result (at + length bytes.now < 2 ^ 63) }
     ensures besides { IsTrue (D.tells disk.old) → Besides file (D.held disk.old) (D.held disk.new) }
 
     // What a crash leaves at any moment of the call, and after it.
-    ensures any_moment { LeavesOnly D.moment D.left_since disk.old disk.new (Reached (OnFile file (Torn at (length bytes.now))) (D.may_leave disk.old)) }
-    ensures crash { Follows (OnFile file (Torn at (length bytes.now))) (D.may_leave disk.old) (D.may_leave disk.new) }
+    ensures any_moment { LeavesOnly D.moment D.left_since disk.old disk.new
+        (Reached (OnFile file (Torn at (length bytes.now))) (D.may_leave disk.old)) }
+    ensures crash { Follows (OnFile file (Torn at (length bytes.now))) (D.may_leave disk.old)
+        (D.may_leave disk.new) }
 
     // The same, where it is known what the file's bytes are in each image.
-    ensures passes { (known : List ℕ) → OnlyBytes file known (D.may_leave disk.old) → RunInFile D.moment D.left_since D.may_leave file (Torn at (length bytes.now) known) (Torn at (length bytes.now) known) disk.old disk.new }
+    ensures passes { (known : List ℕ) → OnlyBytes file known (D.may_leave disk.old)
+        → RunInFile D.moment D.left_since D.may_leave file (Torn at (length bytes.now) known)
+        (Torn at (length bytes.now) known) disk.old disk.new }
 
     ensures counted { Calls D.Device.own 2 (at + length bytes.now) disk.old disk.new result }
 {
@@ -36,16 +43,23 @@ pub fn write_through<D: Device>(
 
 /// Cuts a file to a length, and syncs the file. At `Ok` the cut lasts.
 pub fn cut_through<D: Device>(disk: &mut D, file: u32, len: u64) -> Result<(), Failed>
-    ensures shortened { IsTrue (D.tells disk.old) → OnOk result (bytes_of (D.held disk.new) file ≡ take len (bytes_of (D.held disk.old) file)) }
-    ensures lasting { IsTrue (D.tells disk.old) → OnOk result (OnlyBytes file (bytes_of (D.held disk.new) file) (D.may_leave disk.new)) }
+    ensures shortened { IsTrue (D.tells disk.old)
+        → OnOk result (bytes_of (D.held disk.new) file
+        ≡ take len (bytes_of (D.held disk.old) file)) }
+    ensures lasting { IsTrue (D.tells disk.old)
+        → OnOk result (OnlyBytes file (bytes_of (D.held disk.new) file) (D.may_leave disk.new)) }
     ensures besides { IsTrue (D.tells disk.old) → Besides file (D.held disk.old) (D.held disk.new) }
 
     // What a crash leaves at any moment of the call, and after it.
-    ensures any_moment { LeavesOnly D.moment D.left_since disk.old disk.new (Reached (OnFile file (HalfCut len)) (D.may_leave disk.old)) }
-    ensures crash { Follows (OnFile file (HalfCut len)) (D.may_leave disk.old) (D.may_leave disk.new) }
+    ensures any_moment { LeavesOnly D.moment D.left_since disk.old disk.new
+        (Reached (OnFile file (HalfCut len)) (D.may_leave disk.old)) }
+    ensures crash { Follows (OnFile file (HalfCut len)) (D.may_leave disk.old)
+        (D.may_leave disk.new) }
 
     // The same, where it is known what the file's bytes are in each image.
-    ensures passes { (known : List ℕ) → OnlyBytes file known (D.may_leave disk.old) → RunInFile D.moment D.left_since D.may_leave file (HalfCut len known) (HalfCut len known) disk.old disk.new }
+    ensures passes { (known : List ℕ) → OnlyBytes file known (D.may_leave disk.old)
+        → RunInFile D.moment D.left_since D.may_leave file (HalfCut len known)
+        (HalfCut len known) disk.old disk.new }
 
     ensures counted { Calls D.Device.own 2 0 disk.old disk.new result }
 {

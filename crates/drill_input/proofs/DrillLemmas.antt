@@ -48,7 +48,7 @@ pub goes_on : (o : Origin) (j count : ℕ) (s later : List ℕ) (before after : 
     → behind (spans_of_rows after) (drawn_spans o (j + 1) (count - (j + 1)) later) ≡ all
 goes_on o j count s later before after row all more is pushed stands =
     let spans : spans_of_rows after ≡ spans_of_rows before ++ row.span ∷ [] =
-        ap spans_of_rows pushed ∙ map-append (λ (r : Row). r.span) before (row ∷ []) in
+    ap spans_of_rows pushed ∙ map-append (λ (r : Row). r.span) before (row ∷ []) in
     ap (λ (l : List Span). behind l (drawn_spans o (j + 1) (count - (j + 1)) later)) spans
     ∙ sym (one_more o j count s later (spans_of_rows before) row.span more is) ∙ stands
 

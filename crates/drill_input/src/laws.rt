@@ -7,5 +7,6 @@ ghost use Rattle.drill_input.specs.Drill.{drill_spans, drill_trace};
 pub fn spans_of_a_line()
     ensures some { (seed index : ℕ) → 1 ≤ length (drill_spans seed index) }
     ensures few { (seed index : ℕ) → length (drill_spans seed index) ≤ 8 }
-    ensures one_trace { (seed index : ℕ) → All (λ span. span.trace ≡ drill_trace seed index) (drill_spans seed index) }
+    ensures one_trace { (seed index : ℕ)
+        → All (λ span. span.trace ≡ drill_trace seed index) (drill_spans seed index) }
 {}

@@ -14,7 +14,8 @@ use std::alloc::Global;
 #[tactic(auto, unfolding(crate::specs::Drill::drill_line))]
 pub fn make_line(alloc: Global, seed: u64, index: u32) -> Result<Text, Memory>
     ensures line { IfOk result (λ t. t ≡ drill_line seed index) }
-    ensures reads_back { IfOk result (λ t. reading_of t ≡ Ok (record { spans = drill_spans seed index; rejected = 0; skipped = 0 })) }
+    ensures reads_back { IfOk result (λ t.
+        reading_of t ≡ Ok (record { spans = drill_spans seed index; rejected = 0; skipped = 0 })) }
 {
     let rows = draw_line(alloc, seed, index)?;
     let line = write_trace(alloc, &rows)?;

@@ -80,7 +80,9 @@ fn draw_rows(
     requires few { count ≤ 8 }
     requires named { all_zero origin.now.trace.0 ≡ false }
     requires early { origin.now.start < 2 ^ 63 }
-    ensures { IfOk result (λ rows. (map (λ row. row.span) rows, words.new) ≡ drawn_spans origin.now 0 count words.old) }
+    ensures { IfOk result
+        (λ rows. (map (λ row. row.span) rows, words.new)
+        ≡ drawn_spans origin.now 0 count words.old) }
 {
     let mut rows = Vec::new(alloc);
     for j in 0..count {

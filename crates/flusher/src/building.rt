@@ -19,7 +19,8 @@ pub(crate) struct Block {
 /// Builds the block of a flush's rows, of which there are 1 to 1,048,576. Their spans are borrowed.
 pub(crate) fn build_block(alloc: Global, job: &FlushJob) -> Result<Block, Memory>
     requires { (1 ≤ length job.now.rows) × (length job.now.rows ≤ 1048576) }
-    ensures { IfOk result (λ block. IsFlushBlock job.now.out.file job.now.rows block.bytes block.info) }
+    ensures { IfOk result
+        (λ block. IsFlushBlock job.now.out.file job.now.rows block.bytes block.info) }
 {
     let rows = job.rows.refs(alloc)?;
     let built = build_refs(alloc, rows.as_slice())?;

@@ -141,7 +141,8 @@ fn start<P: FlushPort>(job: FlushJob, block: Block, port: &mut P) -> Phase
 // Writes the next piece, or lists the block that is written.
 fn go_on<P: FlushPort>(job: FlushJob, block: Block, port: &mut P) -> Phase
     requires { IsWriting P.meaning job block.bytes block.info port.old }
-    ensures steps { OneEvent P.meaning (Writing job block.bytes block.info) port.old (task_of result) port.new }
+    ensures steps { OneEvent P.meaning (Writing job block.bytes block.info) port.old
+        (task_of result) port.new }
     ensures fits { Fits P.meaning (task_of result) port.new }
     ensures left { steps_left (task_of result) ≤ length block.bytes - job.out.written + 1 }
     ensures near { length block.bytes < 2 ^ 64 }
@@ -157,7 +158,8 @@ fn go_on<P: FlushPort>(job: FlushJob, block: Block, port: &mut P) -> Phase
 fn write<P: FlushPort>(job: FlushJob, block: Block, port: &mut P) -> Phase
     requires is_writing { IsWriting P.meaning job block.bytes block.info port.old }
     requires more { job.out.written < length block.bytes }
-    ensures steps { OneEvent P.meaning (Writing job block.bytes block.info) port.old (task_of result) port.new }
+    ensures steps { OneEvent P.meaning (Writing job block.bytes block.info) port.old
+        (task_of result) port.new }
     ensures fits { Fits P.meaning (task_of result) port.new }
     ensures left { steps_left (task_of result) ≤ length block.bytes - job.out.written + 1 }
 {
@@ -173,7 +175,8 @@ fn write<P: FlushPort>(job: FlushJob, block: Block, port: &mut P) -> Phase
 fn commit<P: FlushPort>(job: FlushJob, block: Block, port: &mut P) -> Phase
     requires is_writing { IsWriting P.meaning job block.bytes block.info port.old }
     requires whole { job.out.written ≡ length block.bytes }
-    ensures steps { OneEvent P.meaning (Writing job block.bytes block.info) port.old (task_of result) port.new }
+    ensures steps { OneEvent P.meaning (Writing job block.bytes block.info) port.old
+        (task_of result) port.new }
     ensures fits { Fits P.meaning (task_of result) port.new }
     ensures left { steps_left (task_of result) ≡ 0 }
 {
@@ -206,7 +209,8 @@ fn give_up<P: FlushPort>(job: FlushJob, why: Refusal, port: &mut P) -> Phase
 /// The port says what is open in it, as each port does.
 pub fn flush_round<P: FlushPort>(alloc: Global, port: &mut P) -> Round
     requires { (held : List Hold) × P.meaning.holds port.old held }
-    ensures { (calls : List Call) × AreMade P.meaning port.old calls port.new × IsFlushRound calls result }
+    ensures { (calls : List Call) × AreMade P.meaning port.old calls port.new
+        × IsFlushRound calls result }
 {
     let mut task = FlushTask::new(alloc);
     loop {

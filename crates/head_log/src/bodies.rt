@@ -178,7 +178,8 @@ fn each_span(
     count: u64,
     spans: &mut Vec<Span>,
 ) -> Result<(), Break>
-    ensures { Gives (λ _. spans.new.items) result reader.new (items_at (λ _. span_at part resource.now scope.now) count spans.old.items reader.old) }
+    ensures { Gives (λ _. spans.new.items) result reader.new
+        (items_at (λ _. span_at part resource.now scope.now) count spans.old.items reader.old) }
 {
     for _ in 0..count {
         let span = span(alloc, reader, part, resource, scope)?;

@@ -46,14 +46,18 @@ pub trait Group: Origin + Encode + Decode {
         around: &Self::Around,
         spans: &mut Vec<Span>,
     ) -> Result<(), Break>
-        ensures { Gives (λ _. spans.new.items) result reader.new (content_at part around.now self spans.old.items reader.old) };
+        ensures { Gives (λ _. spans.new.items) result reader.new
+            (content_at part around.now self spans.old.items reader.old) };
 }
 
 /// Adds spans in runs of equal groups, after the count of the runs.
 #[tactic(auto, unfolding(span_fields::specs::Encodings::list_bytes))]
 pub fn put_runs<G: Group>(out: &mut Writer, extended: bool, spans: &[Span]) -> Result<(), Memory>
-    ensures written { OnOk result (out.new ≡ out.old ++ runs_bytes G.eq G.of G.encoding (G.content_bytes extended) spans.now) }
-    ensures sound { OnOk result (AreSoundRuns G.eq G.of G.promise (G.content_promise extended) spans.now) }
+    ensures written { OnOk result
+        (out.new ≡ out.old
+        ++ runs_bytes G.eq G.of G.encoding (G.content_bytes extended) spans.now) }
+    ensures sound { OnOk result
+        (AreSoundRuns G.eq G.of G.promise (G.content_promise extended) spans.now) }
 {
     out.var(count_runs::<G>(spans) as u64)?;
     put_each_run::<G>(out, extended, spans)
@@ -64,7 +68,8 @@ fn first<G: Group>(spans: &[Span]) -> (&[Span], &[Span])
     requires { 0 < length spans.now }
     ensures some { 0 < length result.0.now }
     ensures whole { spans.now ≡ result.0.now ++ result.1.now }
-    ensures runs { runs (of_one G.eq G.of) spans.now ≡ as_run result.0.now ++ runs (of_one G.eq G.of) result.1.now }
+    ensures runs { runs (of_one G.eq G.of) spans.now
+        ≡ as_run result.0.now ++ runs (of_one G.eq G.of) result.1.now }
 {
     first_run::<G, Span>(spans)
 }
@@ -84,8 +89,11 @@ fn count_runs<G: Group>(spans: &[Span]) -> usize
 }
 
 fn put_each_run<G: Group>(out: &mut Writer, extended: bool, spans: &[Span]) -> Result<(), Memory>
-    ensures written { OnOk result (out.new ≡ out.old ++ flat_map (run_bytes G.of G.encoding (G.content_bytes extended)) (runs (of_one G.eq G.of) spans.now)) }
-    ensures sound { OnOk result (AreSoundRuns G.eq G.of G.promise (G.content_promise extended) spans.now) }
+    ensures written { OnOk result
+        (out.new ≡ out.old ++ flat_map (run_bytes G.of G.encoding (G.content_bytes extended))
+        (runs (of_one G.eq G.of) spans.now)) }
+    ensures sound { OnOk result
+        (AreSoundRuns G.eq G.of G.promise (G.content_promise extended) spans.now) }
 {
     let mut rest = spans;
     while !rest.is_empty() {
@@ -99,8 +107,11 @@ fn put_each_run<G: Group>(out: &mut Writer, extended: bool, spans: &[Span]) -> R
 /// Adds spans of one group.
 fn put_run<G: Group>(out: &mut Writer, extended: bool, spans: &[Span]) -> Result<(), Memory>
     requires { 0 < length spans.now }
-    ensures written { OnOk result (out.new ≡ out.old ++ flat_map (run_bytes G.of G.encoding (G.content_bytes extended)) (as_run spans.now)) }
-    ensures sound { OnOk result (All (IsSoundRun G.of G.promise (G.content_promise extended)) (as_run spans.now)) }
+    ensures written { OnOk result
+        (out.new ≡ out.old
+        ++ flat_map (run_bytes G.of G.encoding (G.content_bytes extended)) (as_run spans.now)) }
+    ensures sound { OnOk result
+        (All (IsSoundRun G.of G.promise (G.content_promise extended)) (as_run spans.now)) }
 {
     G::of(&spans[0]).encode(out)?;
     G::put_content(out, extended, spans)
@@ -116,7 +127,8 @@ pub fn runs<G: Group>(
     spans: &mut Vec<Span>,
 ) -> Result<(), Break>
     ensures { Gives (λ _. spans.new.items) result reader.new
-        (runs_at (run_at G.eq G.of (G.decoding part.within) (G.content_at part around.now)) count false spans.old.items reader.old) }
+        (runs_at (run_at G.eq G.of (G.decoding part.within)
+        (G.content_at part around.now)) count false spans.old.items reader.old) }
 {
     for index in 0..count {
         run::<G>(alloc, reader, part, around, index > 0, spans)?;
@@ -135,7 +147,8 @@ fn run<G: Group>(
     spans: &mut Vec<Span>,
 ) -> Result<(), Break>
     ensures { Gives (λ _. spans.new.items) result reader.new
-        (run_at G.eq G.of (G.decoding part.within) (G.content_at part around.now) later spans.old.items reader.old) }
+        (run_at G.eq G.of (G.decoding part.within)
+        (G.content_at part around.now) later spans.old.items reader.old) }
 {
     let at = reader.at();
     let group = G::decode(alloc, reader, part.within)?;

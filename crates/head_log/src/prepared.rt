@@ -39,7 +39,8 @@ impl Prepared {
     pub fn of(alloc: Global, number: u64, batch: &Batch) -> Result<Prepared, Memory>
         ensures number { IfOk result (λ p. p.number ≡ number) }
         ensures spelled { IfOk result (λ p. p.body ≡ body_bytes number batch.now.spans) }
-        ensures body { number < 4294967295 → IfOk result (λ p. IsBatchBody number batch.now.spans p.body) }
+        ensures body { number < 4294967295
+            → IfOk result (λ p. IsBatchBody number batch.now.spans p.body) }
     {
         let mut out = Writer::new(alloc);
         out.fixed64(0)?;

@@ -78,13 +78,19 @@ pub fn scan<D: Device>(
     file: u32,
     first: u64,
 ) -> Result<(Segment, Numbered), LogError>
-    ensures reads { IsTrue (D.tells disk.old) → Scans file first (bytes_of (D.held disk.old) file) result }
-    ensures kept { IsTrue (D.tells disk.old) → (batches : List (List Span)) (gate : ℕ) → SegmentHolds first batches gate (bytes_of (D.held disk.old) file) → Recalls first batches gate result }
-    ensures stands { IsTrue (D.tells disk.old) → IfOk result (λ x. (batches : List (List Span)) × (x.1 ≡ entries first batches) × SegmentHolds first batches x.0.gate (bytes_of (D.held disk.old) file)) }
+    ensures reads { IsTrue (D.tells disk.old)
+        → Scans file first (bytes_of (D.held disk.old) file) result }
+    ensures kept { IsTrue (D.tells disk.old) → (batches : List (List Span)) (gate : ℕ)
+        → SegmentHolds first batches gate (bytes_of (D.held disk.old) file)
+        → Recalls first batches gate result }
+    ensures stands { IsTrue (D.tells disk.old)
+        → IfOk result (λ x. (batches : List (List Span)) × (x.1 ≡ entries first batches)
+        × SegmentHolds first batches x.0.gate (bytes_of (D.held disk.old) file)) }
 
     // The answer has this form over a disk that doesn't show its bytes too.
     ensures named { IfOk result (λ x. IsAt x.0 file first (length x.1)) }
-    ensures numbered { IfOk result (λ x. (batches : List (List Span)) × (x.1 ≡ entries first batches)) }
+    ensures numbered { IfOk result
+        (λ x. (batches : List (List Span)) × (x.1 ≡ entries first batches)) }
     ensures below { IfOk result (λ x. All (λ entry. entry.number < 4294967295) x.1) }
 
     // A fault is answered just where a call failed, and it was the last one.
@@ -113,7 +119,8 @@ pub fn scan<D: Device>(
 
 /// All bytes of a file.
 fn read_file<D: Device>(alloc: Global, disk: &mut D, file: u32) -> Result<Vec<u8>, Unread>
-    ensures bytes { IsTrue (D.tells disk.old) → IfOk result (λ v. v.items ≡ bytes_of (D.held disk.old) file) }
+    ensures bytes { IsTrue (D.tells disk.old)
+        → IfOk result (λ v. v.items ≡ bytes_of (D.held disk.old) file) }
     ensures counted { CountsFault D.Device.own 0 unread.Fault disk.old disk.new result }
     ensures untouched { Untouched D.tells D.held D.may_leave D.moment D.left_since disk.old disk.new }
 {
@@ -134,8 +141,13 @@ fn read_more<D: Device>(
     bytes: &mut Vec<u8>,
     block: &mut [u8],
 ) -> Result<usize, Unread>
-    ensures bytes { IsTrue (D.tells disk.old) → IfOk result (λ n. bytes.new.items ≡ bytes.old.items ++ take n (drop (length bytes.old.items) (bytes_of (D.held disk.old) file))) }
-    ensures count { IsTrue (D.tells disk.old) → IfOk result (λ n. n ≡ min (length block.old) (length (bytes_of (D.held disk.old) file) - length bytes.old.items)) }
+    ensures bytes { IsTrue (D.tells disk.old)
+        → IfOk result (λ n. bytes.new.items ≡ bytes.old.items
+        ++ take n (drop (length bytes.old.items) (bytes_of (D.held disk.old) file))) }
+    ensures count { IsTrue (D.tells disk.old)
+        → IfOk result (λ n.
+        n ≡ min (length block.old)
+        (length (bytes_of (D.held disk.old) file) - length bytes.old.items)) }
     ensures counted { CountsFault D.Device.own 0 unread.Fault disk.old disk.new result }
     ensures untouched { Untouched D.tells D.held D.may_leave D.moment D.left_since disk.old disk.new }
 {

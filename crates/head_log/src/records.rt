@@ -26,7 +26,8 @@ pub fn read_segment(
     bytes: &[u8],
     first: u64,
 ) -> Result<(Vec<NumberedBatch>, u64), Break>
-    ensures reads { Answers (λ x. (x.0.items, record { whole = bytes.now; at = x.1 })) result (segment_at first bytes.now) }
+    ensures reads { Answers (λ x. (x.0.items, record { whole = bytes.now; at = x.1 })) result
+        (segment_at first bytes.now) }
     ensures fit { AreBytes bytes.now }
     ensures within { IfOk result (λ x. x.1 ≤ length bytes.now) }
 {
@@ -45,7 +46,8 @@ fn records(
     first: u64,
 ) -> Result<(Vec<NumberedBatch>, u64), Break>
     requires { at ≤ length bytes.now }
-    ensures reads { Answers (λ x. (x.0.items, record { whole = bytes.now; at = x.1 })) result (records_at (length bytes.now) first [] (record { whole = bytes.now; at = at })) }
+    ensures reads { Answers (λ x. (x.0.items, record { whole = bytes.now; at = x.1 })) result
+        (records_at (length bytes.now) first [] (record { whole = bytes.now; at = at })) }
     ensures within { IfOk result (λ x. x.1 ≤ length bytes.now) }
 {
     let mut batches = Vec::new(alloc);
@@ -73,7 +75,8 @@ fn records(
 #[tactic(auto, unfolding(crate::specs::Scanning::record_at))]
 fn record(alloc: Global, bytes: &[u8], at: u64, number: u64) -> Result<(Vec<Span>, u64), Break>
     requires { at ≤ length bytes.now }
-    ensures gives { Answers (λ x. (x.0.items, record { whole = bytes.now; at = x.1 })) result (record_at number (record { whole = bytes.now; at = at })) }
+    ensures gives { Answers (λ x. (x.0.items, record { whole = bytes.now; at = x.1 })) result
+        (record_at number (record { whole = bytes.now; at = at })) }
     ensures within { IfOk result (λ x. x.1 ≤ length bytes.now) }
     ensures below { OnOk result (number < 4294967295) }
 {
@@ -92,7 +95,8 @@ fn body_part(
     number: u64,
 ) -> Result<(Vec<Span>, u64), Break>
     requires { start ≤ length bytes.now }
-    ensures gives { Answers (λ x. (x.0.items, record { whole = bytes.now; at = x.1 })) result (body_in number bytes.now start len) }
+    ensures gives { Answers (λ x. (x.0.items, record { whole = bytes.now; at = x.1 })) result
+        (body_in number bytes.now start len) }
     ensures within { IfOk result (λ x. x.1 ≤ length bytes.now) }
     ensures below { OnOk result (number < 4294967295) }
 {

@@ -36,7 +36,8 @@ pub struct Segment {
 impl Segment {
     /// The segment that `create` made of a file, if its first record is to have this number.
     pub fn fresh(file: u32, first: u64) -> Segment
-        ensures { (result.file ≡ file) × (result.first ≡ first) × (result.count ≡ 0) × (result.gate ≡ 1) }
+        ensures { (result.file ≡ file) × (result.first ≡ first) × (result.count ≡ 0)
+            × (result.gate ≡ 1) }
     {
         Segment {
             file,
@@ -50,12 +51,15 @@ impl Segment {
 /// Turns a file into a segment without records, whatever it held. What is written lasts before `Ok` is answered.
 pub fn create<D: Device>(disk: &mut D, file: u32) -> Result<(), Failed>
     // At `Ok` every image holds the empty segment, whose first record may have any number.
-    ensures empty { (first : ℕ) → IsTrue (D.tells disk.old) → OnOk result (SegmentHolds first [] 1 (bytes_of (D.held disk.new) file)
+    ensures empty { (first : ℕ) → IsTrue (D.tells disk.old)
+        → OnOk result (SegmentHolds first [] 1 (bytes_of (D.held disk.new) file)
         × OnlyBytes file (bytes_of (D.held disk.new) file) (D.may_leave disk.new)) }
-    ensures bytes { IsTrue (D.tells disk.old) → OnOk result (bytes_of (D.held disk.new) file ≡ 1 ∷ 0 ∷ []) }
+    ensures bytes { IsTrue (D.tells disk.old)
+        → OnOk result (bytes_of (D.held disk.new) file ≡ 1 ∷ 0 ∷ []) }
 
     // Whatever a crash leaves of this file, it leaves every other file as it was.
-    ensures any_moment { RunInFile D.moment D.left_since D.may_leave file (λ bytes. Unit {0}) (λ bytes. Unit {0}) disk.old disk.new }
+    ensures any_moment { RunInFile D.moment D.left_since D.may_leave file (λ bytes. Unit {0})
+        (λ bytes. Unit {0}) disk.old disk.new }
     ensures besides { IsTrue (D.tells disk.old) → Besides file (D.held disk.old) (D.held disk.new) }
 
     ensures counted { Calls D.Device.own 3 2 disk.old disk.new result }
@@ -75,26 +79,37 @@ pub fn append<D: Device>(disk: &mut D, seg: &mut Segment, entry: &Prepared) -> R
 
     // The file stands for these batches whatever a crash leaves of it, with its closed gate where the segment says.
     // Then it stands for them, with or without the new one, whenever a crash comes in the call.
-    ensures any_moment { (batches : List (List Span)) (spans : List Span) (known : List ℕ) → IsTrue (D.tells disk.old)
-        → OnlyBytes seg.old.file known (D.may_leave disk.old) → SegmentHolds seg.old.first batches seg.old.gate known
+    ensures any_moment { (batches : List (List Span)) (spans : List Span) (known : List ℕ)
+        → IsTrue (D.tells disk.old)
+        → OnlyBytes seg.old.file known (D.may_leave disk.old)
+        → SegmentHolds seg.old.first batches seg.old.gate known
         → length batches ≡ seg.old.count → IsBatchBody entry.now.number spans entry.now.body
-        → RunInFile D.moment D.left_since D.may_leave seg.old.file (SegmentKeepsEither seg.old.first batches spans) (SegmentKeepsEither seg.old.first batches spans) disk.old disk.new }
+        → RunInFile D.moment D.left_since D.may_leave seg.old.file
+        (SegmentKeepsEither seg.old.first batches spans)
+        (SegmentKeepsEither seg.old.first batches spans) disk.old disk.new }
 
     // After an `Ok` nothing but the batches and the new one can be left, and the segment counts it.
-    ensures acknowledged { (batches : List (List Span)) (spans : List Span) (known : List ℕ) → IsTrue (D.tells disk.old)
-        → OnlyBytes seg.old.file known (D.may_leave disk.old) → SegmentHolds seg.old.first batches seg.old.gate known
+    ensures acknowledged { (batches : List (List Span)) (spans : List Span) (known : List ℕ)
+        → IsTrue (D.tells disk.old)
+        → OnlyBytes seg.old.file known (D.may_leave disk.old)
+        → SegmentHolds seg.old.first batches seg.old.gate known
         → length batches ≡ seg.old.count → IsBatchBody entry.now.number spans entry.now.body
-        → OnOk result (SegmentHolds seg.old.first (batches ++ spans ∷ []) seg.new.gate (bytes_of (D.held disk.new) seg.old.file)
+        → OnOk result (SegmentHolds seg.old.first (batches ++ spans ∷ []) seg.new.gate
+        (bytes_of (D.held disk.new) seg.old.file)
         × OnlyBytes seg.old.file (bytes_of (D.held disk.new) seg.old.file) (D.may_leave disk.new)) }
-    ensures shown { OnOk result ((seg.new.file ≡ seg.old.file) × (seg.new.first ≡ seg.old.first) × (seg.new.count ≡ seg.old.count + 1)) }
+    ensures shown { OnOk result ((seg.new.file ≡ seg.old.file) × (seg.new.first ≡ seg.old.first)
+        × (seg.new.count ≡ seg.old.count + 1)) }
     ensures gate { OnOk result (seg.new.gate ≡ seg.old.gate + 9 + length entry.now.body) }
     ensures stays { OnErr result (seg.new ≡ seg.old) }
 
     // Over any disk, whatever the file held: the other files stay as they were.
-    ensures any_file { RunInFile D.moment D.left_since D.may_leave seg.old.file (λ bytes. Unit {0}) (λ bytes. Unit {0}) disk.old disk.new }
-    ensures besides { IsTrue (D.tells disk.old) → Besides seg.old.file (D.held disk.old) (D.held disk.new) }
+    ensures any_file { RunInFile D.moment D.left_since D.may_leave seg.old.file (λ bytes. Unit {0})
+        (λ bytes. Unit {0}) disk.old disk.new }
+    ensures besides { IsTrue (D.tells disk.old)
+        → Besides seg.old.file (D.held disk.old) (D.held disk.new) }
 
-    ensures counted { Calls D.Device.own 4 (seg.old.gate + 10 + length entry.now.body) disk.old disk.new result }
+    ensures counted { Calls D.Device.own 4
+        (seg.old.gate + 10 + length entry.now.body) disk.old disk.new result }
 {
     let text = entry.text();
     append_record(disk, seg.file, seg.gate, text)?;
@@ -110,18 +125,23 @@ fn append_record<D: Device>(disk: &mut D, file: u32, gate: u64, text: &[u8]) -> 
     requires { gate < 2 ^ 63 }
 
     // Whenever a crash comes, the earlier records are there, with or without the new one.
-    ensures any_moment { (bodies : List (List ℕ)) (body known : List ℕ) → IsTrue (D.tells disk.old) → text.now ≡ framed body → length body < 2 ^ 64
+    ensures any_moment { (bodies : List (List ℕ)) (body known : List ℕ) → IsTrue (D.tells disk.old)
+        → text.now ≡ framed body → length body < 2 ^ 64
         → OnlyBytes file known (D.may_leave disk.old) → HasBodies bodies gate known
-        → RunInFile D.moment D.left_since D.may_leave file (SegmentIsEither bodies body) (SegmentIsEither bodies body) disk.old disk.new }
+        → RunInFile D.moment D.left_since D.may_leave file (SegmentIsEither bodies body)
+        (SegmentIsEither bodies body) disk.old disk.new }
 
     // After an `Ok` the new one can't be lost.
-    ensures acknowledged { (bodies : List (List ℕ)) (body known : List ℕ) → IsTrue (D.tells disk.old) → text.now ≡ framed body → length body < 2 ^ 64
+    ensures acknowledged { (bodies : List (List ℕ)) (body known : List ℕ)
+        → IsTrue (D.tells disk.old) → text.now ≡ framed body → length body < 2 ^ 64
         → OnlyBytes file known (D.may_leave disk.old) → HasBodies bodies gate known
-        → OnOk result (HasBodies (bodies ++ body ∷ []) (gate + length text.now) (bytes_of (D.held disk.new) file)
+        → OnOk result (HasBodies (bodies ++ body ∷ []) (gate + length text.now)
+        (bytes_of (D.held disk.new) file)
         × OnlyBytes file (bytes_of (D.held disk.new) file) (D.may_leave disk.new)) }
 
     ensures near { OnOk result (gate + length text.now < 2 ^ 63) }
-    ensures any_file { RunInFile D.moment D.left_since D.may_leave file (λ bytes. Unit {0}) (λ bytes. Unit {0}) disk.old disk.new }
+    ensures any_file { RunInFile D.moment D.left_since D.may_leave file (λ bytes. Unit {0})
+        (λ bytes. Unit {0}) disk.old disk.new }
     ensures besides { IsTrue (D.tells disk.old) → Besides file (D.held disk.old) (D.held disk.new) }
     ensures counted { Calls D.Device.own 4 (gate + 1 + length text.now) disk.old disk.new result }
 {

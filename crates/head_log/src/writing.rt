@@ -53,7 +53,8 @@ fn first_field(extended: bool, number: u64) -> u64
 /// Adds spans after their count.
 #[tactic(auto, unfolding(span_fields::specs::Encodings::list_bytes))]
 pub fn put_spans(out: &mut Writer, extended: bool, spans: &[Span]) -> Result<(), Memory>
-    ensures written { OnOk result (out.new ≡ out.old ++ list_bytes (span_bytes extended) spans.now) }
+    ensures written { OnOk result
+        (out.new ≡ out.old ++ list_bytes (span_bytes extended) spans.now) }
     ensures sound { OnOk result (AreSoundAlone extended spans.now) }
 {
     out.var(spans.len() as u64)?;
@@ -91,7 +92,8 @@ fn put_span(out: &mut Writer, extended: bool, span: &Span) -> Result<(), Memory>
 
 /// Adds the events and the links, where the body is to have them.
 fn put_extras(out: &mut Writer, extended: bool, span: &Span) -> Result<(), Memory>
-    ensures written { OnOk result (out.new ≡ out.old ++ extras_bytes extended span.now.events span.now.links) }
+    ensures written { OnOk result
+        (out.new ≡ out.old ++ extras_bytes extended span.now.events span.now.links) }
     ensures sound { OnOk result (AreSoundExtras extended span.now) }
 {
     if extended {

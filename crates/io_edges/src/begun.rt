@@ -33,7 +33,8 @@ impl Begun {
         requires sound { IsSound self.old }
         requires fits { begun_len self.old + length bytes.now < 2 ^ 63 }
         ensures sound { IsSound self.new }
-        ensures ok { OnOk result ((piece : List ℕ) → IsBegun self.old piece → IsBegun self.new (piece ++ bytes.now)) }
+        ensures ok { OnOk result ((piece : List ℕ) → IsBegun self.old piece
+            → IsBegun self.new (piece ++ bytes.now)) }
         ensures len { OnOk result (begun_len self.new ≡ begun_len self.old + length bytes.now) }
         ensures err { OnErr result (self.new ≡ self.old) }
     {
@@ -73,7 +74,8 @@ impl Begun {
     // The line, which ends here.
     pub(crate) fn finish(self) -> Line
         requires { IsSound self }
-        ensures line { (piece : List ℕ) → IsBegun self piece → IsLineOf result (without_return piece) }
+        ensures line { (piece : List ℕ) → IsBegun self piece
+            → IsLineOf result (without_return piece) }
         ensures limits { (now : ℕ) → IsWithinLimits result now }
         ensures ended { (now : Reader) → WouldAsk result now }
     {

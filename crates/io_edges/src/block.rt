@@ -90,7 +90,8 @@ impl Block {
     // Takes the next bytes of the source into a block that has none.
     pub(crate) fn fill<S: Source>(&mut self, source: &mut S) -> Result<Fill, LineError>
         requires { self.old.pending ≡ [] }
-        ensures filled { IfOk result (λ fill. IsFilled fill self.new.pending self.new.taken (S.left source.new)) }
+        ensures filled { IfOk result
+            (λ fill. IsFilled fill self.new.pending self.new.taken (S.left source.new)) }
         ensures none { OnErr result (self.new.pending ≡ []) }
         ensures took { Consumes (S.left source.old) (S.left source.new) self.new.pending }
         ensures count { self.new.taken ≡ self.old.taken + length self.new.pending }
@@ -98,7 +99,8 @@ impl Block {
         ensures tells { is_some (S.left source.new) ≡ is_some (S.left source.old) }
         ensures counted { S.faults source.old ≤ S.faults source.new }
         ensures asked { IsErrOf result LineError.Fault → self.new.taken < taken_limit }
-        ensures fault { IsErrOf result LineError.Fault → Rose (S.faults source.old) (S.faults source.new) }
+        ensures fault { IsErrOf result LineError.Fault
+            → Rose (S.faults source.old) (S.faults source.new) }
     {
         self.from = 0;
         self.to = 0;
@@ -137,7 +139,8 @@ fn take_front<S: Source>(source: &mut S, bytes: &mut [u8], room: u64) -> Result<
     requires asks { 0 < length bytes.old }
     requires room { 0 < room }
     ensures within { IfOk result (λ count. (count ≤ room) × (count ≤ length bytes.new)) }
-    ensures took { IfOk result (λ count. Consumes (S.left source.old) (S.left source.new) (take count bytes.new)) }
+    ensures took { IfOk result
+        (λ count. Consumes (S.left source.old) (S.left source.new) (take count bytes.new)) }
     ensures end { IfOk result (λ count. count ≡ 0 → IsAtEnd (S.left source.new)) }
     ensures kept { OnErr result (Keeps (S.left source.old) (S.left source.new)) }
     ensures tells { is_some (S.left source.new) ≡ is_some (S.left source.old) }

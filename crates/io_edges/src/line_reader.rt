@@ -75,7 +75,8 @@ impl LineReader {
     /// one was.
     pub fn next<S: Source>(&mut self, source: &mut S) -> Result<Line, LineError>
         // Where the source shows its bytes, the answer is about the text that is still to be read as lines.
-        ensures line { IfOk result (λ line. (text : List ℕ) → IsToRead self.old (S.left source.old) text
+        ensures line { IfOk result (λ line. (text : List ℕ)
+            → IsToRead self.old (S.left source.old) text
             → Answers line text (IsToRead self.new (S.left source.new))) }
         ensures stands { OnErr result ((text : List ℕ) → IsToRead self.old (S.left source.old) text
             → IsToRead self.new (S.left source.new) text) }
@@ -83,8 +84,10 @@ impl LineReader {
         // Wherever the bytes come from, the limits hold, and each line that is answered leaves fewer bytes to come.
         ensures limits { IfOk result (λ line. IsWithinLimits line self.new.taken) }
         ensures spent { IfOk result (λ line. WouldAsk line self.new) }
-        ensures nearer { IfOk result (λ line. ComesNearer line (to_come self.old) (to_come self.new)) }
-        ensures took { TakesBytes (S.left source.old) (S.left source.new) self.old.taken self.new.taken }
+        ensures nearer { IfOk result
+            (λ line. ComesNearer line (to_come self.old) (to_come self.new)) }
+        ensures took { TakesBytes (S.left source.old)
+            (S.left source.new) self.old.taken self.new.taken }
         ensures limited { self.new.taken ≤ taken_limit }
         ensures tells { is_some (S.left source.new) ≡ is_some (S.left source.old) }
 
@@ -92,7 +95,8 @@ impl LineReader {
         ensures counted { S.faults source.old ≤ S.faults source.new }
         ensures asked { IsErrOf result LineError.Fault → self.new.taken < taken_limit }
         ensures waiting { IsErrOf result LineError.Fault → HoldsNoFeed self.new }
-        ensures fault { IsErrOf result LineError.Fault → Rose (S.faults source.old) (S.faults source.new) }
+        ensures fault { IsErrOf result LineError.Fault
+            → Rose (S.faults source.old) (S.faults source.new) }
     {
         'lines: loop {
             match self.scan() {
@@ -114,11 +118,14 @@ impl LineReader {
     fn scan(&mut self) -> Result<Option<Line>, Memory>
         ensures line { IfOk result (λ found. IfSome found
             (λ line. (held : List ℕ) → Holds self.old held → EndsByFeed held line self.new)) }
-        ensures limits { IfOk result (λ found. IfSome found (λ line. IsWithinLimits line self.new.taken)) }
+        ensures limits { IfOk result
+            (λ found. IfSome found (λ line. IsWithinLimits line self.new.taken)) }
         ensures ended { IfOk result (λ found. IfSome found (λ line. WouldAsk line self.new)) }
-        ensures nearer { IfOk result (λ found. IfSome found (λ _. to_come self.new < to_come self.old)) }
+        ensures nearer { IfOk result
+            (λ found. IfSome found (λ _. to_come self.new < to_come self.old)) }
         ensures looked_at { IfOk result (λ found. IfNone found (self.new.pending ≡ [])) }
-        ensures kept { IfOk result (λ found. IfNone found ((held : List ℕ) → Holds self.old held → Holds self.new held)) }
+        ensures kept { IfOk result
+            (λ found. IfNone found ((held : List ℕ) → Holds self.old held → Holds self.new held)) }
         ensures as_far { IfOk result (λ found. IfNone found (to_come self.new ≡ to_come self.old)) }
         ensures taken { self.new.taken ≡ self.old.taken }
         ensures limited { self.new.taken ≤ taken_limit }
@@ -144,7 +151,8 @@ impl LineReader {
     // Takes the next bytes of the source, where none is pending.
     fn refill<S: Source>(&mut self, source: &mut S) -> Result<Fill, LineError>
         requires { self.old.pending ≡ [] }
-        ensures filled { IfOk result (λ fill. IsFilled fill self.new.pending self.new.taken (S.left source.new)) }
+        ensures filled { IfOk result
+            (λ fill. IsFilled fill self.new.pending self.new.taken (S.left source.new)) }
         ensures none { OnErr result (self.new.pending ≡ []) }
         ensures begun { self.new.begun ≡ self.old.begun }
         ensures took { Consumes (S.left source.old) (S.left source.new) self.new.pending }
@@ -153,7 +161,8 @@ impl LineReader {
         ensures tells { is_some (S.left source.new) ≡ is_some (S.left source.old) }
         ensures counted { S.faults source.old ≤ S.faults source.new }
         ensures asked { IsErrOf result LineError.Fault → self.new.taken < taken_limit }
-        ensures fault { IsErrOf result LineError.Fault → Rose (S.faults source.old) (S.faults source.new) }
+        ensures fault { IsErrOf result LineError.Fault
+            → Rose (S.faults source.old) (S.faults source.new) }
     {
         self.block.fill(source)
     }

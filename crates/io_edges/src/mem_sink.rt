@@ -71,21 +71,26 @@ impl Sink for MemSink {
     ghost faults = { λ s. s.faults };
 
     fn put(&mut self, bytes: &[u8]) -> Result<(), Failed>
-        ensures whole { OnOk result (Appends (Some self.old.taken) (Some self.new.taken) bytes.now) }
-        ensures part { OnErr result (AppendsPrefix (Some self.old.taken) (Some self.new.taken) bytes.now) }
+        ensures whole { OnOk result
+            (Appends (Some self.old.taken) (Some self.new.taken) bytes.now) }
+        ensures part { OnErr result
+            (AppendsPrefix (Some self.old.taken) (Some self.new.taken) bytes.now) }
         ensures tells { is_some (Some self.new.taken) ≡ is_some (Some self.old.taken) }
         ensures counted { self.old.faults ≤ self.new.faults }
         ensures failed { OnErr result (Rose self.old.faults self.new.faults) }
 
         // It fails at each listed call, and elsewhere only where a growth was refused, which is counted.
         ensures listed { Contains self.old.failing self.new.calls → IsErr result }
-        ensures refused { OnErr result (¬ Contains self.old.failing self.new.calls → self.new.starved ≡ one_more self.old.starved) }
-        ensures not_refused { Contains self.old.failing self.new.calls → self.new.starved ≡ self.old.starved }
+        ensures refused { OnErr result (¬ Contains self.old.failing self.new.calls
+            → self.new.starved ≡ one_more self.old.starved) }
+        ensures not_refused { Contains self.old.failing self.new.calls
+            → self.new.starved ≡ self.old.starved }
         ensures grown { OnOk result (self.new.starved ≡ self.old.starved) }
         ensures numbered { self.new.calls ≡ one_more self.old.calls }
         ensures same_list { self.new.failing ≡ self.old.failing }
         ensures kept { OnErr result (self.new.taken ≡ self.old.taken) }
-        ensures by_one { self.new.faults ≡ (if is_ok result then self.old.faults else one_more self.old.faults) }
+        ensures by_one { self.new.faults
+            ≡ (if is_ok result then self.old.faults else one_more self.old.faults) }
     {
         self.calls = self.calls.saturating_add(1);
         let listed = self.failing.as_slice().contains(&self.calls);

@@ -67,7 +67,8 @@ impl Source for MemSource {
         ensures numbered { self.new.calls ≡ one_more self.old.calls }
         ensures same_list { self.new.failing ≡ self.old.failing }
         ensures kept { OnErr result (self.new.left ≡ self.old.left) }
-        ensures by_one { self.new.faults ≡ (if is_ok result then self.old.faults else one_more self.old.faults) }
+        ensures by_one { self.new.faults
+            ≡ (if is_ok result then self.old.faults else one_more self.old.faults) }
 
         // It gives as much as there is room for.
         ensures full { IfOk result (λ count. count ≡ min (length self.old.left) (length buf.old)) }

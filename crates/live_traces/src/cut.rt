@@ -59,7 +59,8 @@ fn copies_of(alloc: Global, entries: &[Entry]) -> Result<Vec<Entry>, Memory>
 
 // Adds an entry for each arrival.
 fn explode(all: &mut Vec<Entry>, arrivals: &[Arrival]) -> Result<(), Memory>
-    ensures { OnOk result (live_of all.new.items ≡ live_of all.old.items ++ arrivals_of arrivals.now) }
+    ensures { OnOk result
+        (live_of all.new.items ≡ live_of all.old.items ++ arrivals_of arrivals.now) }
 {
     for arrival in arrivals {
         let run = run_of(*all.allocator(), &arrival.chunk)?;
@@ -139,7 +140,8 @@ fn parted(
 ) -> Result<(Vec<SharedRow>, Vec<Entry>), Memory>
     ensures { IfOk result (λ parts.
         (parts.0.items ≡ live_rows (filter (goes_with idle last.now) (live_of all.now)))
-        × (live_of parts.1.items ≡ filter (λ e. not (goes_with idle last.now e)) (live_of all.now))) }
+        × (live_of parts.1.items
+        ≡ filter (λ e. not (goes_with idle last.now e)) (live_of all.now))) }
 {
     let mut moved = Vec::new(alloc);
     let mut stay = Vec::new(alloc);
@@ -157,8 +159,10 @@ fn sift(
     last: &BTreeMap<TraceId, u64>,
     moved: &mut Vec<SharedRow>,
 ) -> Result<Vec<SharedRow>, Memory>
-    ensures moved { OnOk result (moved.new.items ≡ moved.old.items ++ filter (row_goes idle last.now) rows.now) }
-    ensures stay { IfOk result (λ stay. stay.items ≡ filter (λ row. not (row_goes idle last.now row)) rows.now) }
+    ensures moved { OnOk result
+        (moved.new.items ≡ moved.old.items ++ filter (row_goes idle last.now) rows.now) }
+    ensures stay { IfOk result
+        (λ stay. stay.items ≡ filter (λ row. not (row_goes idle last.now row)) rows.now) }
 {
     let mut stay = Vec::new(*moved.allocator());
     for row in rows {
@@ -177,8 +181,10 @@ fn put(
     row: SharedRow,
     goes: bool,
 ) -> Result<(), Memory>
-    ensures moved { OnOk result (moved.new.items ≡ (if goes then moved.old.items ++ row ∷ [] else moved.old.items)) }
-    ensures stay { OnOk result (stay.new.items ≡ (if goes then stay.old.items else stay.old.items ++ row ∷ [])) }
+    ensures moved { OnOk result
+        (moved.new.items ≡ (if goes then moved.old.items ++ row ∷ [] else moved.old.items)) }
+    ensures stay { OnOk result
+        (stay.new.items ≡ (if goes then stay.old.items else stay.old.items ++ row ∷ [])) }
 {
     if goes {
         moved.push(row)?;
@@ -190,7 +196,8 @@ fn put(
 
 // Adds an entry of rows that stay, if there are any.
 fn add_entry(stay: &mut Vec<Entry>, rows: Vec<SharedRow>, moment: u64) -> Result<(), Memory>
-    ensures { OnOk result (live_of stay.new.items ≡ live_of stay.old.items ++ arrived moment rows.items) }
+    ensures { OnOk result
+        (live_of stay.new.items ≡ live_of stay.old.items ++ arrived moment rows.items) }
 {
     if rows.len() == 0 {
         return Ok(());

@@ -134,7 +134,8 @@ impl Live {
     /// Adds the rows of a push with its moment, for which room was made since anything was added. It takes no memory.
     pub fn add(&mut self, ready: Ready, moment: u64)
         requires { HasRoom self.now (length ready.spans) }
-        ensures added { self.new.live ≡ self.old.live ++ arrived moment (batch_rows ready.number ready.spans) }
+        ensures added { self.new.live
+            ≡ self.old.live ++ arrived moment (batch_rows ready.number ready.spans) }
         ensures same { (self.new.head ≡ self.old.head) × (self.new.flushing ≡ self.old.flushing) }
         ensures spent { self.new.spare + 1 ≡ self.old.spare }
     {
@@ -190,9 +191,11 @@ impl Live {
     /// Takes the first rows of the head for a flush.
     pub fn take_head(&mut self, most: u32) -> Result<Runs, Memory>
         requires { self.now.flushing ≡ [] }
-        ensures taken { IfOk result (λ rows. (rows ≡ take most self.old.head) × (self.new.flushing ≡ rows)
+        ensures taken { IfOk result
+            (λ rows. (rows ≡ take most self.old.head) × (self.new.flushing ≡ rows)
             × (self.new.head ≡ drop most self.old.head)) }
-        ensures refused { OnErr result ((self.new.flushing ≡ []) × (self.new.head ≡ self.old.head)) }
+        ensures refused { OnErr result
+            ((self.new.flushing ≡ []) × (self.new.head ≡ self.old.head)) }
         ensures same { self.new.live ≡ self.old.live }
     {
         let alloc = *self.kept.allocator();
@@ -208,10 +211,12 @@ impl Live {
 
     /// Moves all live rows to the head, by trace and then place, and answers how many.
     pub fn cut_all(&mut self) -> Result<u64, Memory>
-        ensures moved { IfOk result (λ count. (moved : List Row) × AreMoved (λ entry. true) self.old.live moved
+        ensures moved { IfOk result
+            (λ count. (moved : List Row) × AreMoved (λ entry. true) self.old.live moved
             × (count ≡ length moved) × (self.new.head ≡ self.old.head ++ moved)
             × (self.new.live ≡ filter (λ entry. not true) self.old.live)) }
-        ensures refused { OnErr result ((self.new.live ≡ self.old.live) × (self.new.head ≡ self.old.head)) }
+        ensures refused { OnErr result
+            ((self.new.live ≡ self.old.live) × (self.new.head ≡ self.old.head)) }
         ensures same { self.new.flushing ≡ self.old.flushing }
     {
         let count = self.cut(None)?;
@@ -224,8 +229,10 @@ impl Live {
         ensures moved { IfOk result (λ count. (moved : List Row)
             × AreMoved (is_idle moment self.old.live) self.old.live moved
             × (count ≡ length moved) × (self.new.head ≡ self.old.head ++ moved)
-            × (self.new.live ≡ filter (λ entry. not (is_idle moment self.old.live entry)) self.old.live)) }
-        ensures refused { OnErr result ((self.new.live ≡ self.old.live) × (self.new.head ≡ self.old.head)) }
+            × (self.new.live ≡ filter
+            (λ entry. not (is_idle moment self.old.live entry)) self.old.live)) }
+        ensures refused { OnErr result
+            ((self.new.live ≡ self.old.live) × (self.new.head ≡ self.old.head)) }
         ensures same { self.new.flushing ≡ self.old.flushing }
     {
         let count = self.cut(Some(moment))?;
@@ -234,10 +241,13 @@ impl Live {
 
     // Moves the live rows that go.
     fn cut(&mut self, idle: Option<u64>) -> Result<u64, Memory>
-        ensures moved { IfOk result (λ count. (moved : List Row) × AreMoved (goes idle self.old.live) self.old.live moved
+        ensures moved { IfOk result
+            (λ count. (moved : List Row) × AreMoved (goes idle self.old.live) self.old.live moved
             × (count ≡ length moved) × (self.new.head ≡ self.old.head ++ moved)
-            × (self.new.live ≡ filter (λ entry. not (goes idle self.old.live entry)) self.old.live)) }
-        ensures refused { OnErr result ((self.new.live ≡ self.old.live) × (self.new.head ≡ self.old.head)) }
+            × (self.new.live ≡ filter
+            (λ entry. not (goes idle self.old.live entry)) self.old.live)) }
+        ensures refused { OnErr result
+            ((self.new.live ≡ self.old.live) × (self.new.head ≡ self.old.head)) }
         ensures same { self.new.flushing ≡ self.old.flushing }
     {
         let alloc = *self.kept.allocator();
@@ -257,7 +267,8 @@ impl Live {
 
     /// All rows: those of the flush, of the head, then the live ones. It costs the number of runs, and copies no span.
     pub fn runs(&self) -> Result<Runs, Memory>
-        ensures { IfOk result (λ runs. runs ≡ self.now.flushing ++ self.now.head ++ live_rows self.now.live) }
+        ensures { IfOk result
+            (λ runs. runs ≡ self.now.flushing ++ self.now.head ++ live_rows self.now.live) }
     {
         let alloc = *self.kept.allocator();
         let runs = copies_of_runs(alloc, self.kept.as_slice())?;
@@ -268,7 +279,8 @@ impl Live {
 
     /// Copies of all rows.
     pub fn rows(&self) -> Result<Rows, Memory>
-        ensures { IfOk result (λ rows. rows ≡ self.now.flushing ++ self.now.head ++ live_rows self.now.live) }
+        ensures { IfOk result
+            (λ rows. rows ≡ self.now.flushing ++ self.now.head ++ live_rows self.now.live) }
     {
         let rows = self.runs()?.copy_rows()?;
         Ok(rows)
@@ -368,7 +380,8 @@ fn rests_of(alloc: Global, entries: &[Entry]) -> Result<Vec<Rest>, Memory>
 
 // The pushes of arrivals.
 fn pushes_of(alloc: Global, arrivals: &[Arrival]) -> Result<Vec<Chunk>, Memory>
-    ensures { IfOk result (λ pushes. push_rows pushes.items ≡ live_rows (arrivals_of arrivals.now)) }
+    ensures { IfOk result
+        (λ pushes. push_rows pushes.items ≡ live_rows (arrivals_of arrivals.now)) }
 {
     let mut pushes = Vec::new(alloc);
     for arrival in arrivals {

@@ -17,7 +17,8 @@ use std::alloc::Global;
 // Notes where the rows of a push stand, which is one part more. It takes no memory.
 pub(crate) fn note_push(index: &mut TraceIndex, chunk: &Chunk, part: usize)
     requires { length chunk.now.spans ≤ index.now.places }
-    ensures { (parts : List (List Row)) → part ≡ length parts → IndexesTraces index.old.spots parts →
+    ensures { (parts : List (List Row)) → part ≡ length parts
+        → IndexesTraces index.old.spots parts →
         IndexesTraces index.new.spots (parts ++ chunk_rows chunk.now ∷ []) }
 {
     let count = chunk.len();
@@ -33,7 +34,8 @@ pub(crate) fn note_push(index: &mut TraceIndex, chunk: &Chunk, part: usize)
 
 // Notes where the rows of a run stand, which is one part more.
 fn note_run(index: &mut TraceIndex, rows: &[SharedRow], part: usize) -> Result<(), Memory>
-    ensures { OnOk result ((parts : List (List Row)) → part ≡ length parts → IndexesTraces index.old.spots parts →
+    ensures { OnOk result ((parts : List (List Row)) → part ≡ length parts
+        → IndexesTraces index.old.spots parts →
         IndexesTraces index.new.spots (parts ++ rows.now ∷ [])) }
 {
     index.reserve(rows.len())?;
@@ -80,7 +82,8 @@ pub(crate) fn add_rows_of(
 // A copy of the row that stands there.
 fn copy_at(entries: &[Entry], arrivals: &[Arrival], spot: Spot) -> Result<Row, Memory>
     requires { IsSome (row_at (parts_of entries.now arrivals.now) spot.part spot.at) }
-    ensures { IfOk result (λ row. row_at (parts_of entries.now arrivals.now) spot.part spot.at ≡ Some row) }
+    ensures { IfOk result
+        (λ row. row_at (parts_of entries.now arrivals.now) spot.part spot.at ≡ Some row) }
 {
     let part = spot.part;
     let count = entries.len();

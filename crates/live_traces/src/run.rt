@@ -70,7 +70,8 @@ impl Run {
     /// Its first rows, so many, and the others. No row is copied.
     pub fn split(&self, at: usize) -> Result<(Run, Run), Memory>
         requires { at ≤ length self.now }
-        ensures { IfOk result (λ parts. (parts.0 ≡ take at self.now) × (parts.1 ≡ drop at self.now)) }
+        ensures { IfOk result
+            (λ parts. (parts.0 ≡ take at self.now) × (parts.1 ≡ drop at self.now)) }
     {
         let first = self.part(0, at)?;
         let others = self.part(at, self.len())?;

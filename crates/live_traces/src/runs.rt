@@ -34,7 +34,8 @@ pub(crate) trait HasRows {
 
     /// Adds copies of its rows of a trace to a list.
     fn copy_rows_of(&self, trace: TraceId, rows: &mut Vec<Row>) -> Result<(), Memory>
-        ensures { OnOk result (rows.new.items ≡ rows.old.items ++ rows_of_trace trace (listed self.now)) };
+        ensures { OnOk result
+            (rows.new.items ≡ rows.old.items ++ rows_of_trace trace (listed self.now)) };
 }
 
 /// Several runs, behind them what remained live after a cut, and behind that whole pushes. Contracts see the list of all
@@ -82,7 +83,8 @@ impl Runs {
 
     /// All rows by trace, those of each trace in their order. They are shared and not copied. It costs a sort.
     pub fn by_trace(&self, alloc: Global) -> Result<Run, Memory>
-        ensures groups { IfOk result (λ run. (trace : AnyTrace) → rows_of_trace trace run ≡ rows_of_trace trace self.now) }
+        ensures groups { IfOk result (λ run. (trace : AnyTrace)
+            → rows_of_trace trace run ≡ rows_of_trace trace self.now) }
     {
         let mut rows = self.shares(alloc)?;
         sort_by_trace(&mut rows)?;
@@ -160,7 +162,8 @@ pub(crate) fn add_those_of<T: HasRows>(
     trace: TraceId,
     rows: &mut Vec<Row>,
 ) -> Result<(), Memory>
-    ensures { OnOk result (rows.new.items ≡ rows.old.items ++ rows_of_trace trace (flat_map T.listed parts.now)) }
+    ensures { OnOk result
+        (rows.new.items ≡ rows.old.items ++ rows_of_trace trace (flat_map T.listed parts.now)) }
 {
     for part in parts {
         part.copy_rows_of(trace, rows)?;

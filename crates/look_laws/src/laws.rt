@@ -28,8 +28,10 @@ use store_state::LookPort;
 /// known then: the earlier one, with what the calls until then added, and others among them.
 pub fn a_look_among_calls_is_kept<P: LookPort>(old: &P, new: &P)
     ensures { (before between after : List Call) (look : LookParts) (v : View) (held : List Hold)
-        → AreMade P.meaning old.now (before ++ taking look ∷ (between ++ after)) new.now → P.meaning.knows old.now v
-        → P.meaning.holds old.now held → IsTrue (P.meaning.tells old.now) → AllByRecursion (LeavesLook look) between
+        → AreMade P.meaning old.now (before ++ taking look ∷ (between ++ after)) new.now
+        → P.meaning.knows old.now v
+        → P.meaning.holds old.now held → IsTrue (P.meaning.tells old.now)
+        → AllByRecursion (LeavesLook look) between
         → IsKept P.meaning v.history old.now before look between after new.now }
 {}
 
@@ -38,7 +40,8 @@ pub fn a_look_among_calls_is_kept<P: LookPort>(old: &P, new: &P)
 /// `write_piece` asks: whatever pushes, cuts, flushes, compactions and emptyings of files come in between.
 pub fn a_look_among_events_tells_its_history<D: Device>(old: &Core<D>, new: &Core<D>)
     ensures { (before between after : List Call) (look : LookParts) (m : Machine) (held : List Hold)
-        → AreMade (port_of D.Device.own) old.now (before ++ taking look ∷ (between ++ after)) new.now
+        → AreMade (port_of D.Device.own) old.now
+        (before ++ taking look ∷ (between ++ after)) new.now
         → CoreStandsFor D.Device.own old.now m → (port_of D.Device.own).holds old.now held
         → IsTrue (D.tells old.now.disk) → AllByRecursion (KeepsLook look) between
         → AreOwnPieces held (before ++ taking look ∷ (between ++ after))
@@ -47,7 +50,8 @@ pub fn a_look_among_events_tells_its_history<D: Device>(old: &Core<D>, new: &Cor
 
 /// A list of events writes each piece to the file of a job that is open then, whatever is open before it.
 pub fn events_write_own_pieces()
-    ensures { (events : List Event) (replies : List EventReply) (calls : List Call) (last : Stages) (held : List Hold)
+    ensures { (events : List Event) (replies : List EventReply) (calls : List Call) (last : Stages)
+        (held : List Hold)
         → AreEventsAnswered [] no_step events replies calls last → AreOwnPieces held calls }
 {}
 
@@ -55,9 +59,12 @@ pub fn events_write_own_pieces()
 /// history at the look, and each page that is read of its blocks before it is given back is that of the file as it was
 /// then.
 pub fn a_look_of_a_run_tells_its_history<D: Device>(old: &Core<D>, new: &Core<D>)
-    ensures { (events : List Event) (replies : List EventReply) (before between after : List Call) (look : LookParts)
-        (m : Machine) (held : List Hold) → (ran : HasRun (port_of D.Device.own) old.now events replies new.now)
-        → ran.calls ≡ before ++ taking look ∷ (between ++ after) → CoreStandsFor D.Device.own old.now m
+    ensures { (events : List Event) (replies : List EventReply) (before between after : List Call)
+        (look : LookParts)
+        (m : Machine) (held : List Hold)
+        → (ran : HasRun (port_of D.Device.own) old.now events replies new.now)
+        → ran.calls ≡ before ++ taking look ∷ (between ++ after)
+        → CoreStandsFor D.Device.own old.now m
         → (port_of D.Device.own).holds old.now held → IsTrue (D.tells old.now.disk)
         → AllByRecursion (KeepsLook look) between
         → TellsExactly (port_of D.Device.own) m.history old.now before look between after new.now }

@@ -68,7 +68,8 @@ fn one_of(value: &Value, members: &[Member]) -> Option<Member>
 
 /// The member of an object that has no other.
 fn alone(value: &Value) -> Option<(&str, &Value)>
-    ensures { IfSome result (λ m. view value.now ≡ object (member m.0.now (view m.1.now) no_members)) }
+    ensures { IfSome result
+        (λ m. view value.now ≡ object (member m.0.now (view m.1.now) no_members)) }
 {
     let object = value.as_object()?;
     if object.len() != 1 {
@@ -172,8 +173,10 @@ fn few_firsts(attrs: Vec<Attr>) -> Vec<Attr>
 
 /// Whether no attribute before has the key. Then it is one of their keys.
 fn is_new<'a>(keys: &mut BTreeSet<&'a str>, key: &'a str) -> Result<bool, Memory>
-    ensures new_key { IfOk result (λ new. (before : List Attr) → HasKeysOf keys.old before → new ≡ not (has_key key.now before)) }
-    ensures kept { OnOk result ((before : List Attr) (attr : Attr) → HasKeysOf keys.old before → attr.key ≡ key.now → HasKeysOf keys.new (before ++ attr ∷ [])) }
+    ensures new_key { IfOk result (λ new. (before : List Attr) → HasKeysOf keys.old before
+        → new ≡ not (has_key key.now before)) }
+    ensures kept { OnOk result ((before : List Attr) (attr : Attr) → HasKeysOf keys.old before
+        → attr.key ≡ key.now → HasKeysOf keys.new (before ++ attr ∷ [])) }
 {
     match keys.insert(key) {
         Ok(new) => Ok(new),
@@ -233,7 +236,8 @@ pub(crate) struct Attributes {
 pub(crate) fn attributes_in(alloc: Global, value: &Value) -> Result<Attributes, Stop>
     ensures attrs { IfOk result (λ a. a.attrs ≡ attrs_in (view value.now)) }
     ensures skipped { IfOk result (λ a. Adds 0 a.skipped (skipped_attrs (view value.now))) }
-    ensures right { IfOk result (λ _. first_in_field m.Attributes attributes_form (view value.now) ≡ None) }
+    ensures right { IfOk result
+        (λ _. first_in_field m.Attributes attributes_form (view value.now) ≡ None) }
     ensures wrong { StopsAt result (first_in_field m.Attributes attributes_form (view value.now)) }
 {
     let kept = kept_in::<Attr>(alloc, value, Member::Attributes)?;

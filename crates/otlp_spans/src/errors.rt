@@ -76,7 +76,8 @@ impl Stop {
 
     /// The same, seen from the value in which the one that is read stands.
     pub(crate) fn behind(self, step: Step) -> Stop
-        ensures wrong { (path : List Step) → result ≡ Wrong path → (inner : List Step) × (self ≡ Wrong inner) × (path ≡ step ∷ inner) }
+        ensures wrong { (path : List Step) → result ≡ Wrong path
+            → (inner : List Step) × (self ≡ Wrong inner) × (path ≡ step ∷ inner) }
     {
         match self {
             Stop::Wrong(path) => match path.behind(step) {

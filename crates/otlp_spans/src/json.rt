@@ -70,8 +70,11 @@ pub(crate) fn list_in<'a>(
     member: Member,
 ) -> Result<&'a [Value], Stop>
     ensures list { IfOk result (λ l. map view l.now ≡ list_in member (view value.now)) }
-    ensures right { IfOk result (λ l. (f : Form) → first_in_field member (ListOf f) (view value.now) ≡ behind (Of member) (first_in_items (first_wrong f) 0 (map view l.now))) }
-    ensures wrong { (f : Form) → StopsAt result (first_in_field member (ListOf f) (view value.now)) }
+    ensures right { IfOk result (λ l. (f : Form)
+        → first_in_field member (ListOf f) (view value.now)
+        ≡ behind (Of member) (first_in_items (first_wrong f) 0 (map view l.now))) }
+    ensures wrong { (f : Form)
+        → StopsAt result (first_in_field member (ListOf f) (view value.now)) }
 {
     let Some(found) = found(value, member) else {
         return Ok(&[]);
@@ -88,7 +91,8 @@ pub(crate) fn number_or_text<'a>(
     value: &'a Value,
     member: Member,
 ) -> Result<Option<&'a Value>, Stop>
-    ensures found { IfOk result (λ o. option_map (λ v. view v.now) o ≡ found member (view value.now)) }
+    ensures found { IfOk result
+        (λ o. option_map (λ v. view v.now) o ≡ found member (view value.now)) }
     ensures right { IfOk result (λ _. first_in_field member NumberOrText (view value.now) ≡ None) }
     ensures wrong { StopsAt result (first_in_field member NumberOrText (view value.now)) }
 {

@@ -56,10 +56,15 @@ pub struct Reading {
 /// given.
 #[tactic(auto, unfolding(crate::specs::Reading::reading_of))]
 pub fn read_line(alloc: Global, line: &[u8]) -> Result<Reading, OtlpError>
-    ensures ok { IfOk result (λ r. reading_of line.now ≡ Ok (record { spans = r.batch.spans; rejected = r.rejected; skipped = r.skipped })) }
+    ensures ok { IfOk result
+        (λ r. reading_of line.now
+        ≡ Ok (record { spans = r.batch.spans; rejected = r.rejected; skipped = r.skipped })) }
     ensures not_json { IfErr result (λ e. e ≡ NotJson → reading_of line.now ≡ Err NoJson) }
-    ensures not_request { IfErr result (λ e. (text : List ℕ) → e ≡ NotRequest text → (path : List Step) × (text ≡ path_text path) × (reading_of line.now ≡ Err (WrongForm path))) }
-    ensures too_many { IfErr result (λ e. (spans : ℕ) → e ≡ TooMany spans → reading_of line.now ≡ Err (TooManySpans spans)) }
+    ensures not_request { IfErr result (λ e. (text : List ℕ) → e ≡ NotRequest text
+        → (path : List Step) × (text ≡ path_text path)
+        × (reading_of line.now ≡ Err (WrongForm path))) }
+    ensures too_many { IfErr result (λ e. (spans : ℕ) → e ≡ TooMany spans
+        → reading_of line.now ≡ Err (TooManySpans spans)) }
     ensures most { IfOk result (λ r. length r.batch.spans ≤ MOST_SPANS) }
     ensures readable { IfOk result (λ r. All IsReadable r.batch.spans) }
 {
@@ -93,9 +98,11 @@ fn read_json(alloc: Global, line: &[u8]) -> Result<Value, OtlpError>
 /// What was gathered, where there aren't too many spans.
 fn counted(gathered: Gathered) -> Result<Reading, OtlpError>
     requires { gathered.objects ≤ MOST_SPANS → length gathered.spans.items ≤ MOST_SPANS }
-    ensures ok { IfOk result (λ r. (d : Data) → gathered.spans.items ≡ spans_of d → Adds 0 gathered.objects (objects_of d) → Adds 0 gathered.skipped (skipped_of d)
+    ensures ok { IfOk result (λ r. (d : Data) → gathered.spans.items ≡ spans_of d
+        → Adds 0 gathered.objects (objects_of d) → Adds 0 gathered.skipped (skipped_of d)
         → counted d ≡ Ok (record { spans = r.batch.spans; rejected = r.rejected; skipped = r.skipped })) }
-    ensures spans { IfOk result (λ r. (r.batch.spans ≡ gathered.spans.items) × (gathered.objects ≤ MOST_SPANS)) }
+    ensures spans { IfOk result
+        (λ r. (r.batch.spans ≡ gathered.spans.items) × (gathered.objects ≤ MOST_SPANS)) }
     ensures too_many { IfErr result (λ e. (d : Data) → Adds 0 gathered.objects (objects_of d)
         → (spans : ℕ) × (e ≡ TooMany spans) × (counted d ≡ Err (TooManySpans spans))) }
 {

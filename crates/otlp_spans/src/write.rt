@@ -30,7 +30,8 @@ pub fn write_trace(alloc: Global, rows: &Rows) -> Result<Text, Memory>
     ensures text { IfOk result (λ t. t ≡ trace_text (spans_in rows.now)) }
     ensures json { IfOk result (λ t. json_of t ≡ Some (trace_json (spans_in rows.now))) }
     ensures reads_back { length rows.now ≤ MOST_SPANS
-        → IfOk result (λ t. reading_of t ≡ Ok (record { spans = spans_in rows.now; rejected = 0; skipped = 0 })) }
+        → IfOk result (λ t. reading_of t
+        ≡ Ok (record { spans = spans_in rows.now; rejected = 0; skipped = 0 })) }
 {
     let value = trace(alloc, rows.as_slice())?;
     Ok(Text::of(value.to_string(alloc)?))

@@ -49,7 +49,8 @@ pub(crate) trait OfBlock {
         requires can { can self.now }
         requires ready { G.ready pages.old block }
         ensures told { IsTrue (G.tells pages.old) → (rows : List Row)
-            → BlockHasInfo info.now (G.held pages.old block) rows → FindsFit (fits self.now rows) result }
+            → BlockHasInfo info.now (G.held pages.old block) rows
+            → FindsFit (fits self.now rows) result }
         ensures some { IfOk result (λ found. (rows : List Row) × some self.now rows found) }
         ensures its_file { IsInFile block result }
         ensures reads { IsTrue (G.tells pages.old) → (rows : List Row)
@@ -75,7 +76,8 @@ pub(crate) fn of_blocks<P: FlushPort, R: OfBlock>(
 ) -> Result<Seq<R::Item>, QueryError>
     requires open { IsOpen P.meaning port.old (look_of look.now) }
     requires can { R.can reads.now }
-    ensures { BlocksRead P.meaning look.now look.now.pin.blocks (R.some reads.now) (R.fits reads.now)
+    ensures { BlocksRead P.meaning look.now look.now.pin.blocks (R.some reads.now)
+        (R.fits reads.now)
         (AtMost (most_of (R.most reads.now) look.now.pin.blocks)) port.old result port.new }
 {
     let mut found = Vec::new(alloc);

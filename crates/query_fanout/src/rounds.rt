@@ -49,9 +49,11 @@ pub(crate) fn take_rounds<P: FlushPort>(
 ) -> Result<Best, QueryError>
     requires open { IsOpen P.meaning port.old (look_of look.now) }
     requires sieve { sifter.old ≡ asked_sieve asked.now }
-    requires picks { (seen : List AnyRow) × PicksOf (asked_sieve asked.now) seen own.now picks.items }
+    requires picks { (seen : List AnyRow)
+        × PicksOf (asked_sieve asked.now) seen own.now picks.items }
     ensures { (seen : List AnyRow) → PicksOf (asked_sieve asked.now) seen own.now picks.items
-        → BlocksRead P.meaning look.now look.now.pin.blocks (λ rows best. AnswersRows asked.now (own.now ++ rows) best)
+        → BlocksRead P.meaning look.now look.now.pin.blocks
+        (λ rows best. AnswersRows asked.now (own.now ++ rows) best)
         (λ rows best. AnswersRows asked.now (own.now ++ rows) best)
         (SearchReads (asked_hint asked.now) seen look.now.pin.blocks) port.old result port.new }
 {
@@ -105,7 +107,8 @@ fn one_round<'l, P: FlushPort>(
     requires least { IsLeast rounds.scans.items at }
     requires sieve { sifter.old ≡ asked_sieve asked.now }
     ensures goes { GoesFrom P.meaning look.now own.now asked.now port.old rounds.entry result port.new }
-    ensures fewer { IfOk result (λ new. all_steps new.scans.items < all_steps rounds.entry.scans.items) }
+    ensures fewer { IfOk result
+        (λ new. all_steps new.scans.items < all_steps rounds.entry.scans.items) }
     ensures sifter { sifter.new ≡ sifter.old }
 {
     let bound = rounds.scans[at].upto;
@@ -179,7 +182,8 @@ fn go_on_at<'l, P: FlushPort>(
     requires low { at < length rounds.scans.items }
     requires sieve { sifter.old ≡ asked_sieve asked.now }
     ensures goes { GoesFrom P.meaning look.now own.now asked.now port.old rounds.entry result port.new }
-    ensures fewer { IfOk result (λ new. (d : AnyScan) → is_all (slice_index_or rounds.entry.scans.items at d).upto ≡ false
+    ensures fewer { IfOk result (λ new. (d : AnyScan)
+        → is_all (slice_index_or rounds.entry.scans.items at d).upto ≡ false
         → all_steps new.scans.items < all_steps rounds.entry.scans.items) }
     ensures sifter { sifter.new ≡ sifter.old }
 {

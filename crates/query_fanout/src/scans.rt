@@ -79,11 +79,13 @@ pub(crate) fn go_on<'l, P: FlushPort>(
 ) -> Result<Found<'l>, QueryError>
     requires open { IsOpen P.meaning port.old (look_of look.now) }
     requires pinned { is_among scan.info.now.file (info_files look.now.pin.blocks) ≡ true }
-    ensures read { BlocksRead P.meaning look.now (scan.entry.info.now ∷ []) (λ rows found. rows ≡ [])
+    ensures read { BlocksRead P.meaning look.now (scan.entry.info.now ∷ [])
+        (λ rows found. rows ≡ [])
         (λ rows found. GoesOn sifter.old rows scan.entry found.scan found.picks.items)
         (ReadsOn sifter.old.hint scan.entry result) port.old result port.new }
     ensures same { IfOk result (λ found. found.scan.info ≡ scan.entry.info) }
-    ensures further { IfOk result (λ found. is_all scan.entry.upto ≡ false → steps_left found.scan < steps_left scan.entry) }
+    ensures further { IfOk result (λ found. is_all scan.entry.upto ≡ false
+        → steps_left found.scan < steps_left scan.entry) }
     ensures sifter { sifter.new ≡ sifter.old }
 {
     let file = file_of(scan.info);
@@ -112,7 +114,8 @@ pub(crate) fn go_on<'l, P: FlushPort>(
 fn further<'l>(scan: Scan<'l>, progress: Progress) -> Scan<'l>
     ensures info { result.info ≡ scan.entry.info }
     ensures next { result.next ≡ progress.next }
-    ensures upto { result.upto ≡ reach_at progress.next (length scan.entry.info.now.stripes) progress.last }
+    ensures upto { result.upto
+        ≡ reach_at progress.next (length scan.entry.info.now.stripes) progress.last }
 {
     let info = scan.info;
     let upto = if progress.next < info.stripes.len() {

@@ -62,7 +62,8 @@ pub fn search<P: FlushPort>(
 ) -> Result<SearchAnswer, QueryError>
     requires { (held : List Hold) × P.meaning.holds port.old held }
     ensures asked { HasAsked P.meaning port.old (IsSearchAnswer asked.now) result port.new }
-    ensures bounded { IsTrue (P.meaning.tells port.old) → (kept : Kept) → P.meaning.keeps port.old kept
+    ensures bounded { IsTrue (P.meaning.tells port.old) → (kept : Kept)
+        → P.meaning.keeps port.old kept
         → SearchReadsOf asked.now kept (P.meaning.reads port.old) (P.meaning.reads port.new) }
 {
     let look = match port.look() {

@@ -76,7 +76,8 @@ pub(crate) fn take_picks<P: FlushPort>(
     requires open { IsOpen P.meaning port.old (look_of look.now) }
     requires ascend { Ascend picks.items }
     ensures { BlocksRead P.meaning look.now look.now.pin.blocks
-        (TookTheirs asked.now own.now picks.items best) (TookWith asked.now own.now picks.items best)
+        (TookTheirs asked.now own.now picks.items best)
+        (TookWith asked.now own.now picks.items best)
         (AtMost (look_ups (traces_of picks.items) look.now.pin.blocks)) port.old result port.new }
 {
     match two_parts(alloc, picks, asked.limit) {
@@ -114,7 +115,8 @@ fn take_parts<P: FlushPort>(
     ensures { BlocksRead P.meaning look.now look.now.pin.blocks
         (TookTheirs asked.now own.now (late.now ++ early.now) best)
         (TookWith asked.now own.now (late.now ++ early.now) best)
-        (AtMost (look_ups (traces_of (late.now ++ early.now)) look.now.pin.blocks)) port.old result port.new }
+        (AtMost (look_ups (traces_of
+        (late.now ++ early.now)) look.now.pin.blocks)) port.old result port.new }
 {
     let turns = match in_turns(alloc, late, early) {
         Ok(turns) => turns,

@@ -76,8 +76,10 @@ pub fn find_trace<P: FlushPort>(
 ) -> Result<TraceAnswer, QueryError>
     requires { (held : List Hold) × P.meaning.holds port.old held }
     ensures asked { HasAsked P.meaning port.old (IsTraceAnswer id) result port.new }
-    ensures bounded { IsTrue (P.meaning.tells port.old) → (kept : Kept) → P.meaning.keeps port.old kept
-        → RoseAtMost (look_up_pages id kept.infos kept.parts) (P.meaning.reads port.old) (P.meaning.reads port.new) }
+    ensures bounded { IsTrue (P.meaning.tells port.old) → (kept : Kept)
+        → P.meaning.keeps port.old kept
+        → RoseAtMost (look_up_pages id kept.infos kept.parts) (P.meaning.reads port.old)
+        (P.meaning.reads port.new) }
 {
     let look = match port.look() {
         Ok(look) => look,
@@ -112,7 +114,8 @@ fn trace_of_look<P: FlushPort>(
 
 // The first occurrences among a look's rows of the trace, and more rows.
 fn trace_firsts(alloc: Global, look: &Look, id: TraceId, found: Rows) -> Result<TraceAnswer, Memory>
-    ensures firsts { IfOk result (λ answer. IsFirstOf (rows_of_trace id look.now.rows ++ found) answer.rows) }
+    ensures firsts { IfOk result
+        (λ answer. IsFirstOf (rows_of_trace id look.now.rows ++ found) answer.rows) }
     ensures count { IfOk result (λ answer. answer.as_of ≡ look.now.as_of) }
 {
     let rows = look.rows.rows_of(id)?;

@@ -22,7 +22,8 @@ pub(crate) fn two_parts(
     limit: u32,
 ) -> Result<(Vec<Pick>, Vec<Pick>), Memory>
     requires { Ascend picks.items }
-    ensures same { IfOk result (λ parts. IsPermutation picks.items (parts.0.items ++ parts.1.items)) }
+    ensures same { IfOk result
+        (λ parts. IsPermutation picks.items (parts.0.items ++ parts.1.items)) }
     ensures late { IfOk result (λ parts. Ascend parts.0.items) }
     ensures early { IfOk result (λ parts. Ascend parts.1.items) }
 {
@@ -81,7 +82,8 @@ pub(crate) fn in_turns<'p>(
 ) -> Result<Vec<&'p [Pick]>, Memory>
     requires late { Ascend late.now }
     requires early { Ascend early.now }
-    ensures same { IfOk result (λ turns. flat_map (λ few. few.now) turns.items ≡ late.now ++ early.now) }
+    ensures same { IfOk result
+        (λ turns. flat_map (λ few. few.now) turns.items ≡ late.now ++ early.now) }
     ensures ascend { IfOk result (λ turns. All (λ few. Ascend few.now) turns.items) }
 {
     let mut turns = Vec::new(alloc);

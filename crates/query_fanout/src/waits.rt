@@ -29,7 +29,8 @@ pub(crate) fn batch_of(alloc: Global, picks: Vec<Pick>, gone: Reach) -> Result<B
     ensures whole { IfOk result (λ batch. All (λ p. is_below gone p.trace ≡ false
         → IsCovered (waiting batch) p) picks.items) }
     ensures only { IfOk result (λ batch. All (Contains picks.items) (waiting batch)) }
-    ensures above { IfOk result (λ batch. All (λ p. is_below gone p.trace ≡ false) (waiting batch)) }
+    ensures above { IfOk result
+        (λ batch. All (λ p. is_below gone p.trace ≡ false) (waiting batch)) }
 {
     let all = in_order(alloc, picks)?;
     let picks = above(alloc, all.as_slice(), gone)?;
@@ -38,7 +39,8 @@ pub(crate) fn batch_of(alloc: Global, picks: Vec<Pick>, gone: Reach) -> Result<B
 
 // The picks of traces that aren't gone through.
 fn above(alloc: Global, picks: &[Pick], gone: Reach) -> Result<Vec<Pick>, Memory>
-    ensures { IfOk result (λ kept. kept.items ≡ filter (λ p. not (is_below gone p.trace)) picks.now) }
+    ensures { IfOk result
+        (λ kept. kept.items ≡ filter (λ p. not (is_below gone p.trace)) picks.now) }
 {
     let mut kept = Vec::new(alloc);
     for pick in picks {

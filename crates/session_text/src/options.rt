@@ -62,7 +62,8 @@ fn count_first<'a>(
     length: u64,
     left: Option<&'a str>,
 ) -> Result<(Option<u32>, Option<&'a str>), u64>
-    ensures { option_parsed result ≡ option_first count_of name.now length (left_parsed left.entry) }
+    ensures { option_parsed result
+        ≡ option_first count_of name.now length (left_parsed left.entry) }
 {
     let Some(text) = left else {
         return Ok((None, None));

@@ -105,7 +105,8 @@ fn asked_by<P: PatternMaker>(
     maker: &mut P,
 ) -> Result<Request, Refusal>
     ensures asked { (refused : List (List ℕ)) × RefusesOnly P.makes maker.old maker.new refused
-        × Answers (other_line moment (first_part line.now) line.now (other_parts line.now)) refused result }
+        × Answers (other_line moment (first_part line.now) line.now
+        (other_parts line.now)) refused result }
     ensures few { IfOk result (λ request. HasFewSpans request) }
 {
     let (word, rest) = split_text(line);
@@ -129,7 +130,8 @@ fn push_with(
     length: u64,
     rest: Option<&[u8]>,
 ) -> Result<Request, Refusal>
-    ensures asked { (result ≡ push_with moment length (option_map (λ s. s.now) rest.entry)) ⊎ (result ≡ Err Memory) }
+    ensures asked { (result ≡ push_with moment length (option_map (λ s. s.now) rest.entry))
+        ⊎ (result ≡ Err Memory) }
     ensures few { IfOk result (λ request. HasFewSpans request) }
 {
     let Some(json) = rest else {

@@ -70,7 +70,8 @@ pub(crate) fn fitted<P: PatternMaker>(
 ) -> Result<Checked, Refusal>
     requires { Ascends (asked_patterns (query_tree query)) }
     ensures { (refused : List (List ℕ)) × RefusesOnly P.makes maker.old maker.new refused
-        × MatchResult result (λ checked. (checked.query ≡ query) × (refused ≡ [])) (IsMisfit (query_tree query) refused) }
+        × MatchResult result (λ checked. (checked.query ≡ query) × (refused ≡ []))
+        (IsMisfit (query_tree query) refused) }
 {
     match check(alloc, query, maker) {
         Ok(checked) => Ok(checked),

@@ -58,7 +58,8 @@ fn pushed(
     rejected: u32,
     skipped: u32,
 ) -> Result<String, AllocError>
-    ensures { IfOk result (λ text. string_bytes text ≡ pushed_text number accepted rejected skipped) }
+    ensures { IfOk result
+        (λ text. string_bytes text ≡ pushed_text number accepted rejected skipped) }
 {
     format!(in alloc;
         "ok push {number} accepted={accepted} rejected={rejected} skipped={skipped}\n"
@@ -87,7 +88,8 @@ fn write_searched(
     fields: &Texts,
     results: &Results,
 ) -> Result<String, Memory>
-    ensures { IfOk result (λ text. string_bytes text ≡ reply_text (Searched as_of fields.now results.now)) }
+    ensures { IfOk result
+        (λ text. string_bytes text ≡ reply_text (Searched as_of fields.now results.now)) }
 {
     let json = write_results(alloc, fields, results)?;
     let text = searched(alloc, as_of, results.len(), json.as_str())?;

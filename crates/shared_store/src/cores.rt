@@ -39,10 +39,13 @@ pub fn a_core_is_unshared<D: Device>(core: &Core<D>)
 /// The calls that were made on a core are legal from each machine that it stood for, and it then stands for the machine that they
 /// leave; and so of the machines that its memory shows, whatever its disk holds.
 pub fn entries_of_a_core_are_legal<D: Device>(old: &Core<D>, new: &Core<D>)
-    ensures stands { (entries : List Entry) → AreEntries (port_of D.Device.own) old.now entries new.now → (m : Machine)
-        → CoreStandsFor D.Device.own old.now m → (m' : Machine) × CoreStandsFor D.Device.own new.now m'
+    ensures stands { (entries : List Entry)
+        → AreEntries (port_of D.Device.own) old.now entries new.now → (m : Machine)
+        → CoreStandsFor D.Device.own old.now m
+        → (m' : Machine) × CoreStandsFor D.Device.own new.now m'
         × Legal (D.faults old.now.disk) m entries (D.faults new.now.disk) m' }
-    ensures shown { (entries : List Entry) → AreEntries (port_of D.Device.own) old.now entries new.now → (m : Machine)
+    ensures shown { (entries : List Entry)
+        → AreEntries (port_of D.Device.own) old.now entries new.now → (m : Machine)
         → CoreShows D.Device.own old.now m → (m' : Machine) × CoreShows D.Device.own new.now m'
         × Legal (D.faults old.now.disk) m entries (D.faults new.now.disk) m' }
 {}
@@ -50,8 +53,10 @@ pub fn entries_of_a_core_are_legal<D: Device>(old: &Core<D>, new: &Core<D>)
 /// After each call on a seat of a core's store there is one legal history of calls of the store up to it. It begins with what the
 /// seat had seen and ends with this call.
 pub fn a_call_of_a_seat_is_legal<D: Device>(key: &Core<D>)
-    ensures { (v w : Stand (core D)) (event : Event) (reply : Reply) → Called (seat_meaning (port_of D.Device.own)) v event reply w
-        → v.known.start ≡ Some key.now → HasCalled D.Device.own key.now v.known event reply w.known }
+    ensures { (v w : Stand (core D)) (event : Event) (reply : Reply)
+        → Called (seat_meaning (port_of D.Device.own)) v event reply w
+        → v.known.start ≡ Some key.now
+        → HasCalled D.Device.own key.now v.known event reply w.known }
 {}
 
 /// What `close` gives, where the port is a core: one legal history of calls of the store leads to it, and begins with what the ticket

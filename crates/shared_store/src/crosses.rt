@@ -22,6 +22,8 @@ pub fn a_shared_port_is_shared<Q: LookPort>(_shared: &SharedPort<Q>)
 
 /// Where a disk may go to another thread, a ticket of a store on it may, and threads may share a reference to that store.
 pub fn a_shared_core_crosses<D: Device>(_core: &Core<D>)
-    ensures ticket { IsSend D.row → IsSend (ticket_type.the_row (core_type.the_row D.row) ⟦<Core<D> as LookPort>⟧) }
-    ensures shared { IsSend D.row → IsSync (shared_type.the_row (core_type.the_row D.row) ⟦<Core<D> as LookPort>⟧) }
+    ensures ticket { IsSend D.row
+        → IsSend (ticket_type.the_row (core_type.the_row D.row) ⟦<Core<D> as LookPort>⟧) }
+    ensures shared { IsSend D.row
+        → IsSync (shared_type.the_row (core_type.the_row D.row) ⟦<Core<D> as LookPort>⟧) }
 {}

@@ -13,11 +13,14 @@ use store_state::LookPort;
 /// seen. A seat that was split off has made none.
 pub fn a_seat_has_just_its_calls<P: LookPort>(_port: &P)
     ensures none { (v : Known P) → calls_of (split_off v) ≡ [] }
-    ensures calls { (v w : Stand P) (calls : List Call) → AreMade (seat_meaning P.meaning) v calls w →
+    ensures calls { (v w : Stand P) (calls : List Call)
+        → AreMade (seat_meaning P.meaning) v calls w →
         map call_of (calls_of w.known) ≡ map call_of (calls_of v.known) ++ calls }
-    ensures seen { (v w : Stand P) (calls : List Call) → AreMade (seat_meaning P.meaning) v calls w →
+    ensures seen { (v w : Stand P) (calls : List Call)
+        → AreMade (seat_meaning P.meaning) v calls w →
         (later : List Entry) × (w.known.seen.entries ≡ v.known.seen.entries ++ later) }
-    ensures store { (v w : Stand P) (calls : List Call) → AreMade (seat_meaning P.meaning) v calls w →
+    ensures store { (v w : Stand P) (calls : List Call)
+        → AreMade (seat_meaning P.meaning) v calls w →
         (w.table ≡ v.table) × (w.known.start ≡ v.known.start) × (w.known.parts ≡ v.known.parts) }
 {}
 
@@ -25,5 +28,6 @@ pub fn a_seat_has_just_its_calls<P: LookPort>(_port: &P)
 pub fn a_joined_seat_has_what_both_had<P: LookPort>(_port: &P)
     ensures { (v w : Known P) → ShareNone v.seen.names w.seen.names
         → GoesOn v.seen.names v.seen.entries (together v w).seen.entries
-        → GoesOn w.seen.names w.seen.entries (together v w).seen.entries → IsBoth v w (together v w) }
+        → GoesOn w.seen.names w.seen.entries (together v w).seen.entries
+        → IsBoth v w (together v w) }
 {}

@@ -62,8 +62,10 @@ impl<'a, Q: LookPort, R> PortSeat<'a, Q, R> {
     /// A second seat, which has seen as much and has one part. It never takes memory, so it isn't refused.
     pub fn split(self) -> Result<(PortSeat<'a, Q, R>, PortSeat<'a, Q, R>), PortSeat<'a, Q, R>>
         requires { 2 ≤ self.known.parts }
-        ensures first { IfOk result (λ two. two.0 ≡ stand_of self.entry.table (one_less self.entry.known)) }
-        ensures second { IfOk result (λ two. two.1 ≡ stand_of self.entry.table (split_off self.entry.known)) }
+        ensures first { IfOk result
+            (λ two. two.0 ≡ stand_of self.entry.table (one_less self.entry.known)) }
+        ensures second { IfOk result
+            (λ two. two.1 ≡ stand_of self.entry.table (split_off self.entry.known)) }
         ensures done { IsOk result }
     {
         let PortSeat { rt, top, place } = self;
@@ -82,7 +84,8 @@ impl<'a, Q: LookPort, R> PortSeat<'a, Q, R> {
     /// One seat of two of one store.
     pub fn join(self, other: PortSeat<'a, Q, R>) -> PortSeat<'a, Q, R>
         requires { other.table ≡ self.table }
-        ensures both { result ≡ stand_of self.entry.table (together self.entry.known other.entry.known) }
+        ensures both { result
+            ≡ stand_of self.entry.table (together self.entry.known other.entry.known) }
         ensures apart { ShareNone self.entry.known.seen.names other.entry.known.seen.names }
         ensures strangers { AllStrangers result.known.seen.holds }
         ensures first { GoesOn self.entry.known.seen.names self.entry.known.seen.entries result.known.seen.entries }

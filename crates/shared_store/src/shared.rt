@@ -35,7 +35,8 @@ impl<Q: LookPort> SharedPort<Q> {
         requires unshared { IsUnshared Q.meaning }
         requires untouched { Q.meaning.holds port [] }
         ensures key { IfOk result (λ made. made.0.key ≡ port) }
-        ensures first { IfOk result (λ made. IsOf made.0 made.1 × (made.1.known ≡ first_view port)) }
+        ensures first { IfOk result
+            (λ made. IsOf made.0 made.1 × (made.1.known ≡ first_view port)) }
         ensures err { IfErr result (λ refused. refused.1 ≡ port) }
     {
         let about = Snapshot::of(&port);

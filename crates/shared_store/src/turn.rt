@@ -30,7 +30,8 @@ pub(crate) fn take<Q: LookPort, R: Wait>(rt: &R, top: &Top<Q>, place: &mut Place
     requires idle { place.old.me.1 ≡ [] }
     ensures place { (place.new.table_id ≡ place.old.table_id) × (place.new.id ≡ place.old.id)
         × (place.new.me ≡ (showing (Some result) place.old.me.0, (0, None) ∷ [])) }
-    ensures found { (key : Q) → place.old.me.0.start ≡ Some key → IsFound Q.meaning key place.old.me.0 result }
+    ensures found { (key : Q) → place.old.me.0.start ≡ Some key
+        → IsFound Q.meaning key place.old.me.0 result }
 {
     for _ in rt.forever() {
         if top.compare_exchange::<Win>(place, 0, 0, 1) == 0 {
@@ -51,14 +52,18 @@ fn append<Q: LookPort, J: Says<Q>>(
 )
     requires table { (place.old.table_id ≡ top.now.table_id) × (top.now.table_id.words ≡ 2) }
     requires part { 0 < place.old.me.0.parts }
-    requires said { (J.event ≡ event_of _asked.now) × (J.reply ≡ reply_of _told.now) × (J.after ≡ Some _port.now) }
+    requires said { (J.event ≡ event_of _asked.now) × (J.reply ≡ reply_of _told.now)
+        × (J.after ≡ Some _port.now) }
     requires called { (before : Q) × (place.old.me.0.shown ≡ Some before)
         × Called Q.meaning before (event_of _asked.now) (reply_of _told.now) _port.now }
     requires mine { IsOwn place.old.me.0.seen.holds (event_of _asked.now) (reply_of _told.now) }
-    ensures place { (place.new.table_id ≡ place.old.table_id) × (place.new.id ≡ place.old.id) × (place.new.me.1 ≡ place.old.me.1)
+    ensures place { (place.new.table_id ≡ place.old.table_id) × (place.new.id ≡ place.old.id)
+        × (place.new.me.1 ≡ place.old.me.1)
         × with_seen (Some _port.now) place.old.me.0 place.new.me.0 }
-    ensures appended { (key before : Q) → place.old.me.0.start ≡ Some key → place.old.me.0.shown ≡ Some before
-        → IsAppended Q.meaning key (event_of _asked.now) (reply_of _told.now) before _port.now place.old.me.0 place.new.me.0 }
+    ensures appended { (key before : Q) → place.old.me.0.start ≡ Some key
+        → place.old.me.0.shown ≡ Some before
+        → IsAppended Q.meaning key (event_of _asked.now)
+        (reply_of _told.now) before _port.now place.old.me.0 place.new.me.0 }
 {
     top.fetch_add::<Append<J>>(place, 1, 1);
 }
@@ -91,10 +96,13 @@ pub(crate) fn finish<Q: LookPort>(
     requires called { (before : Q) × (place.old.me.0.shown ≡ Some before)
         × Called Q.meaning before (event_of asked.now) (reply_of told.now) port }
     requires mine { IsOwn place.old.me.0.seen.holds (event_of asked.now) (reply_of told.now) }
-    ensures place { (place.new.table_id ≡ place.old.table_id) × (place.new.id ≡ place.old.id) × (place.new.me.1 ≡ [])
+    ensures place { (place.new.table_id ≡ place.old.table_id) × (place.new.id ≡ place.old.id)
+        × (place.new.me.1 ≡ [])
         × with_seen None place.old.me.0 place.new.me.0 }
-    ensures appended { (key before : Q) → place.old.me.0.start ≡ Some key → place.old.me.0.shown ≡ Some before
-        → IsAppended Q.meaning key (event_of asked.now) (reply_of told.now) before port place.old.me.0 place.new.me.0 }
+    ensures appended { (key before : Q) → place.old.me.0.start ≡ Some key
+        → place.old.me.0.shown ≡ Some before
+        → IsAppended Q.meaning key (event_of asked.now)
+        (reply_of told.now) before port place.old.me.0 place.new.me.0 }
 {
     append::<Q, Brand>(top, place, &port, asked, told);
     give_back(top, place, port);

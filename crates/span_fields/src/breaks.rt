@@ -56,7 +56,8 @@ pub fn broken(error: FieldError, at: u64, within: bool) -> Break
 
 #[tactic(auto, unfolding(crate::specs::Breaks::in_part))]
 pub fn raw<'a>(reader: &mut Reader<'a>, within: bool, count: u64) -> Result<&'a [u8], Break>
-    ensures gives { Gives (λ x. x.now) result reader.new (in_part within (raw_at count) reader.old) }
+    ensures gives { Gives (λ x. x.now) result reader.new
+        (in_part within (raw_at count) reader.old) }
     ensures count { IfOk result (λ x. length x.now ≡ count) }
 {
     let at = reader.at();

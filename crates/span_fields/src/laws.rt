@@ -20,8 +20,10 @@ pub fn encoded_is_read()
     ensures attrs { (w : Bool) → EncodedIsRead (attrs_at w) attrs_bytes AreSoundAttrs }
     ensures resource { (w : Bool) → EncodedIsRead (resource_at w) resource_bytes IsSoundResource }
     ensures scope { (w : Bool) → EncodedIsRead (scope_at w) scope_bytes IsSoundScope }
-    ensures events { (w : Bool) → EncodedIsRead (events_at w) (list_bytes event_bytes) (AreSound IsSoundEvent) }
-    ensures links { (w : Bool) → EncodedIsRead (links_at w) (list_bytes link_bytes) (AreSound IsSoundLink) }
+    ensures events { (w : Bool)
+        → EncodedIsRead (events_at w) (list_bytes event_bytes) (AreSound IsSoundEvent) }
+    ensures links { (w : Bool)
+        → EncodedIsRead (links_at w) (list_bytes link_bytes) (AreSound IsSoundLink) }
 {}
 
 /// What is read is what is encoded there.
@@ -35,6 +37,8 @@ pub fn read_is_encoded()
     ensures attrs { (w : Bool) → ReadIsEncoded (attrs_at w) attrs_bytes AreSoundAttrs }
     ensures resource { (w : Bool) → ReadIsEncoded (resource_at w) resource_bytes IsSoundResource }
     ensures scope { (w : Bool) → ReadIsEncoded (scope_at w) scope_bytes IsSoundScope }
-    ensures events { (w : Bool) → ReadIsEncoded (events_at w) (list_bytes event_bytes) (AreSound IsSoundEvent) }
-    ensures links { (w : Bool) → ReadIsEncoded (links_at w) (list_bytes link_bytes) (AreSound IsSoundLink) }
+    ensures events { (w : Bool)
+        → ReadIsEncoded (events_at w) (list_bytes event_bytes) (AreSound IsSoundEvent) }
+    ensures links { (w : Bool)
+        → ReadIsEncoded (links_at w) (list_bytes link_bytes) (AreSound IsSoundLink) }
 {}

@@ -68,7 +68,8 @@ fn put_each<T: Encode>(out: &mut Writer, items: &[T]) -> Result<(), Memory>
 /// A list. Its count takes no memory before the items are there.
 #[tactic(auto, unfolding(crate::specs::Decodings::list_at))]
 pub fn list<T: Decode>(alloc: Global, reader: &mut Reader, within: bool) -> Result<Seq<T>, Break>
-    ensures { Gives (λ x. x) result reader.new (list_at within (λ _. T.decoding within) reader.old) }
+    ensures { Gives (λ x. x) result reader.new
+        (list_at within (λ _. T.decoding within) reader.old) }
 {
     let count = breaks::var(reader, within)?;
     let items = each(alloc, reader, within, count)?;
@@ -81,7 +82,8 @@ fn each<T: Decode>(
     within: bool,
     count: u64,
 ) -> Result<Vec<T>, Break>
-    ensures { Gives (λ x. x.items) result reader.new (items_at (λ _. T.decoding within) count [] reader.old) }
+    ensures { Gives (λ x. x.items) result reader.new
+        (items_at (λ _. T.decoding within) count [] reader.old) }
 {
     let mut items = Vec::new(alloc);
     for _ in 0..count {

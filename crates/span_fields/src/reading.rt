@@ -105,7 +105,8 @@ fn few_attrs(
     count: u64,
 ) -> Result<Vec<Attr>, Break>
     requires { count ≤ 16 }
-    ensures { Gives (λ x. x.items) result reader.new (items_at (attr_at within) count [] reader.old) }
+    ensures { Gives (λ x. x.items) result reader.new
+        (items_at (attr_at within) count [] reader.old) }
 {
     let mut attrs = Vec::with_capacity(alloc, count as usize)?;
     for _ in 0..count {
@@ -117,8 +118,10 @@ fn few_attrs(
 
 /// Whether no attribute before has the key. Then it is one of their keys.
 fn is_new(alloc: Global, keys: &mut BTreeSet<String>, key: &str) -> Result<bool, Break>
-    ensures new_key { IfOk result (λ new. (before : List Attr) → HasKeysOf keys.old before → new ≡ not (has_key key.now before)) }
-    ensures kept { OnOk result ((before : List Attr) (attr : Attr) → HasKeysOf keys.old before → attr.key ≡ key.now → HasKeysOf keys.new (before ++ attr ∷ [])) }
+    ensures new_key { IfOk result (λ new. (before : List Attr) → HasKeysOf keys.old before
+        → new ≡ not (has_key key.now before)) }
+    ensures kept { OnOk result ((before : List Attr) (attr : Attr) → HasKeysOf keys.old before
+        → attr.key ≡ key.now → HasKeysOf keys.new (before ++ attr ∷ [])) }
     ensures memory { IfErr result (λ why. why ≡ broken.Memory) }
 {
     let key = key.to_owned(alloc)?;
@@ -136,8 +139,10 @@ fn attr(
     within: bool,
     keys: &mut BTreeSet<String>,
 ) -> Result<Attr, Break>
-    ensures gives { (before : List Attr) → HasKeysOf keys.old before → Gives (λ x. x) result reader.new (attr_at within before reader.old) }
-    ensures kept { IfOk result (λ attr. (before : List Attr) → HasKeysOf keys.old before → HasKeysOf keys.new (before ++ attr ∷ [])) }
+    ensures gives { (before : List Attr) → HasKeysOf keys.old before
+        → Gives (λ x. x) result reader.new (attr_at within before reader.old) }
+    ensures kept { IfOk result (λ attr. (before : List Attr) → HasKeysOf keys.old before
+        → HasKeysOf keys.new (before ++ attr ∷ [])) }
 {
     let at = reader.at();
     let key = breaks::text(reader, within)?;
@@ -154,7 +159,8 @@ fn many_attrs(
     within: bool,
     count: u64,
 ) -> Result<Vec<Attr>, Break>
-    ensures { Gives (λ x. x.items) result reader.new (items_at (attr_at within) count [] reader.old) }
+    ensures { Gives (λ x. x.items) result reader.new
+        (items_at (attr_at within) count [] reader.old) }
 {
     let mut attrs = Vec::new(alloc);
     let mut keys = BTreeSet::new(alloc);
@@ -172,7 +178,8 @@ fn each_attr(
     within: bool,
     count: u64,
 ) -> Result<Vec<Attr>, Break>
-    ensures { Gives (λ x. x.items) result reader.new (items_at (attr_at within) count [] reader.old) }
+    ensures { Gives (λ x. x.items) result reader.new
+        (items_at (attr_at within) count [] reader.old) }
 {
     if count <= FEW {
         return few_attrs(alloc, reader, within, count);

@@ -83,7 +83,8 @@ fn family_of(
     parent: Option<SpanId>,
     position: usize,
 ) -> Result<Option<usize>, Memory>
-    ensures { IfOk result (λ family. JoinsFamily (get span_cmp firsts.old) (get span_cmp firsts.new) parent position family) }
+    ensures { IfOk result (λ family.
+        JoinsFamily (get span_cmp firsts.old) (get span_cmp firsts.new) parent position family) }
 {
     let Some(parent) = parent else {
         return Ok(None);

@@ -55,7 +55,8 @@ fn join<L: Ledger>(
 ) -> Option<usize>
     requires { (g : ℕ) → group ≡ Some g → g < length last.old }
     ensures earlier { result ≡ option_and_then (λ g. at last.old g) group }
-    ensures after { last.new ≡ option_map_or (λ g. slice_set last.old g (Some position)) group last.old }
+    ensures after { last.new
+        ≡ option_map_or (λ g. slice_set last.old g (Some position)) group last.old }
     ensures steps { steps.new ≤ steps.old + 1 }
     ensures forward { steps.old ≤ steps.new }
 {
@@ -73,7 +74,8 @@ pub fn with_others<L: Ledger>(
 ) -> Result<Found, Memory>
     ensures one_each { IfOk result (λ found. length found ≡ length groups.now) }
     ensures marks { IfOk result (λ found. (y : ℕ) → y < length groups.now
-        → slice_index_or found y false ≡ shows_other members.now.last members.now.before (at groups.now y) y) }
+        → slice_index_or found y false
+        ≡ shows_other members.now.last members.now.before (at groups.now y) y) }
     ensures steps { steps.new ≤ steps.old + 3 * length groups.now }
     ensures forward { steps.old ≤ steps.new }
     ensures least { OnOk result (steps.old + 2 * length groups.now ≤ steps.new) }
@@ -94,7 +96,8 @@ fn has_other<L: Ledger>(
     position: usize,
     steps: &mut Steps<L>,
 ) -> bool
-    ensures shown { result ≡ shows_other members.now.last members.now.before (at groups.now position) position }
+    ensures shown { result
+        ≡ shows_other members.now.last members.now.before (at groups.now position) position }
     ensures steps { steps.new ≤ steps.old + 2 }
     ensures least { steps.old + 1 ≤ steps.new }
 {

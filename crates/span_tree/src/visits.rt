@@ -224,7 +224,8 @@ impl<'a> Marked<'a> {
         position: usize,
         steps: &mut Steps<L>,
     ) -> Option<usize>
-        ensures entry { result ≡ (if slice_index_or self.now position false then at table.now position else None) }
+        ensures entry { result
+            ≡ (if slice_index_or self.now position false then at table.now position else None) }
         ensures step { steps.new ≡ steps.old + 1 }
     {
         if self.look(position, steps) {
@@ -288,8 +289,10 @@ impl Found {
     ) -> (Option<usize>, Option<usize>)
         requires { position < length self.old }
         ensures marks { self.new ≡ slice_set self.old position true }
-        ensures one { result.0 ≡ (if slice_index_or self.old position false then None else at one.now position) }
-        ensures other { result.1 ≡ (if slice_index_or self.old position false then None else at other.now position) }
+        ensures one { result.0
+            ≡ (if slice_index_or self.old position false then None else at one.now position) }
+        ensures other { result.1
+            ≡ (if slice_index_or self.old position false then None else at other.now position) }
         ensures step { steps.new ≡ steps.old + 1 }
     {
         steps.tick();

@@ -29,7 +29,8 @@ pub fn first_rows(alloc: Global, rows: Rows) -> Result<Rows, Memory>
 /// The first occurrences of what `firsts` are the first occurrences of, followed by more rows. So they can be joined
 /// part by part; where no two rows have one place, the order of the parts doesn't matter.
 pub fn first_rows_more(alloc: Global, firsts: Rows, more: Rows) -> Result<Rows, Memory>
-    ensures { IfOk result (λ all. (base : List Row) → IsFirstOf base firsts → IsFirstOf (base ++ more) all) }
+    ensures { IfOk result (λ all. (base : List Row) → IsFirstOf base firsts
+        → IsFirstOf (base ++ more) all) }
 {
     let mut rows = firsts.into_vec();
     let mut more = more.into_vec();
@@ -72,7 +73,8 @@ fn firsts_by_key(alloc: Global, rows: Vec<Row>) -> Result<BTreeMap<Key, Row>, Me
 
 // The row is kept for its key, where it comes before the one that is kept.
 fn keep_first(firsts: &mut BTreeMap<Key, Row>, row: Row) -> Result<(), Memory>
-    ensures { OnOk result ((k : Key) → get key_cmp firsts.new k ≡ lesser (get key_cmp firsts.old k) (row_at k row)) }
+    ensures { OnOk result ((k : Key)
+        → get key_cmp firsts.new k ≡ lesser (get key_cmp firsts.old k) (row_at k row)) }
 {
     let key = row.span.key();
     if comes_first(firsts, &key, &row.place) {

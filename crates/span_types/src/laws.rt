@@ -16,7 +16,8 @@ pub fn numbers_are_of_one()
     ensures kind_of_number { (k : SpanKind) → kind_numbered (kind_number k) ≡ Some k }
     ensures number_of_kind { (n : ℕ) (k : SpanKind) → kind_numbered n ≡ Some k → kind_number k ≡ n }
     ensures code_of_number { (c : StatusCode) → code_numbered (code_number c) ≡ Some c }
-    ensures number_of_code { (n : ℕ) (c : StatusCode) → code_numbered n ≡ Some c → code_number c ≡ n }
+    ensures number_of_code { (n : ℕ) (c : StatusCode) → code_numbered n ≡ Some c
+        → code_number c ≡ n }
 {}
 
 /// Resources and scopes are equal, as maps test their keys, exactly where contracts see the same.

@@ -13,7 +13,8 @@ use std::alloc::Global;
 /// Marks where one of two has a mark.
 pub fn either(alloc: Global, left: &Marks, right: &Marks) -> Result<Marks, Memory>
     requires { length left.now ≡ length right.now }
-    ensures { IfOk result (MarksBy (length left.now) (λ y. mark_at left.now y || mark_at right.now y)) }
+    ensures { IfOk result
+        (MarksBy (length left.now) (λ y. mark_at left.now y || mark_at right.now y)) }
 {
     let (left, right) = (left.as_slice(), right.as_slice());
     let mut marks = Vec::with_capacity(alloc, left.len())?;
@@ -26,7 +27,8 @@ pub fn either(alloc: Global, left: &Marks, right: &Marks) -> Result<Marks, Memor
 /// Marks where both have a mark.
 pub fn both(alloc: Global, left: &Marks, right: &Marks) -> Result<Marks, Memory>
     requires { length left.now ≡ length right.now }
-    ensures { IfOk result (MarksBy (length left.now) (λ y. mark_at left.now y && mark_at right.now y)) }
+    ensures { IfOk result
+        (MarksBy (length left.now) (λ y. mark_at left.now y && mark_at right.now y)) }
 {
     let (left, right) = (left.as_slice(), right.as_slice());
     let mut marks = Vec::with_capacity(alloc, left.len())?;
@@ -39,7 +41,8 @@ pub fn both(alloc: Global, left: &Marks, right: &Marks) -> Result<Marks, Memory>
 /// Marks where the left has a mark and the right has none.
 pub fn without(alloc: Global, left: &Marks, right: &Marks) -> Result<Marks, Memory>
     requires { length left.now ≡ length right.now }
-    ensures { IfOk result (MarksBy (length left.now) (λ y. mark_at left.now y && not (mark_at right.now y))) }
+    ensures { IfOk result
+        (MarksBy (length left.now) (λ y. mark_at left.now y && not (mark_at right.now y))) }
 {
     let (left, right) = (left.as_slice(), right.as_slice());
     let mut marks = Vec::with_capacity(alloc, left.len())?;
@@ -71,7 +74,8 @@ pub fn any(marks: &Marks) -> bool
 
 /// The positions with a mark, in ascending order.
 pub fn marked(alloc: Global, marks: &Marks) -> Result<Positions, Memory>
-    ensures { IfOk result (λ members. members ≡ filter (mark_at marks.now) (positions_from 0 (length marks.now))) }
+    ensures { IfOk result
+        (λ members. members ≡ filter (mark_at marks.now) (positions_from 0 (length marks.now))) }
 {
     let mut members = Vec::new(alloc);
     for (position, mark) in marks.as_slice().iter().enumerate() {

@@ -60,7 +60,8 @@ pub fn evaluate(
     trace: &Rows,
 ) -> Result<Option<TraceResult>, Memory>
     requires { IsOneTrace trace.now }
-    ensures { IfOk result (IsOutcome checked.now.patterns trace.now (query_tree checked.now.query)) }
+    ensures { IfOk result
+        (IsOutcome checked.now.patterns trace.now (query_tree checked.now.query)) }
 {
     let matchers = Matchers::of(alloc, checked)?;
     let mut context = EvalContext::of(alloc, matchers, trace.as_slice());

@@ -137,7 +137,8 @@ fn take_next<'v>(
     requires left_up { Ascend (reverse left.old.items) }
     requires right_up { Ascend (reverse right.old.items) }
     ensures takes { IfOk result (λ next.
-        TakesPart (reverse left.old.items) (reverse right.old.items) next (reverse left.new.items) (reverse right.new.items)) }
+        TakesPart (reverse left.old.items) (reverse right.old.items) next (reverse left.new.items)
+        (reverse right.new.items)) }
     ensures fewer { IfOk result (λ next. IfSome next (λ p.
         vec_len left.new + vec_len right.new < vec_len left.old + vec_len right.old)) }
     ensures end { IfOk result (λ next. next ≡ None → vec_len left.new + vec_len right.new ≡ 0) }

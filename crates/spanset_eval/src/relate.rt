@@ -62,7 +62,9 @@ fn structural<L: Ledger>(
 ) -> Result<Marks, Memory>
     requires left_each { length left.now ≡ length tree.now }
     requires right_each { length right.now ≡ length tree.now }
-    ensures { IfOk result (MarksSet (length tree.now) (Structural side (Relates relation tree.now) (IsMarked left.now) (IsMarked right.now))) }
+    ensures { IfOk result
+        (MarksSet (length tree.now)
+        (Structural side (Relates relation tree.now) (IsMarked left.now) (IsMarked right.now))) }
 {
     let reached = related(tree, relation, left, steps)?;
     match side {
@@ -80,7 +82,9 @@ fn structural<L: Ledger>(
 // Marks on the spans of both sides where neither is empty.
 fn together(alloc: Global, left: &Marks, right: &Marks) -> Result<Marks, Memory>
     requires { length left.now ≡ length right.now }
-    ensures { IfOk result (MarksSet (length left.now) (Joined SpansetOp.And [] (IsMarked left.now) (IsMarked right.now))) }
+    ensures { IfOk result
+        (MarksSet (length left.now)
+        (Joined SpansetOp.And [] (IsMarked left.now) (IsMarked right.now))) }
 {
     if marks::any(left) && marks::any(right) {
         marks::either(alloc, left, right)
@@ -119,7 +123,8 @@ fn both_marked(left: &Marks, right: &Marks) -> bool
 fn unrelated(alloc: Global, side: Side, left: &Marks, right: Marks) -> Result<Marks, Memory>
     requires { IsSome (IsMarked left.now) → IsSome (IsMarked right) → ⊥ }
     ensures { IfOk result (λ marks. (r : Kinship) (nodes : List Node) →
-        MarksSet (length right) (Structural side (Relates r nodes) (IsMarked left.now) (IsMarked right)) marks) }
+        MarksSet (length right)
+        (Structural side (Relates r nodes) (IsMarked left.now) (IsMarked right)) marks) }
 {
     match side {
         Side::Unrelated => Ok(right),

@@ -55,7 +55,8 @@ impl<'c, 'q, 'a> TraceView<'c, 'q, 'a> {
         values: &mut Vec<Value>,
     ) -> Result<(), Memory>
         ensures { OnOk result (values.new.items
-            ≡ values.old.items ++ map (λ f. field_of_span f (view_rows self.now) span.now) fields.now) }
+            ≡ values.old.items ++ map
+            (λ f. field_of_span f (view_rows self.now) span.now) fields.now) }
     {
         for field in fields {
             values.push(self.context.field(field, span)?)?;
@@ -71,7 +72,8 @@ impl<'c, 'q, 'a> TraceView<'c, 'q, 'a> {
         values: &mut Vec<Value>,
     ) -> Result<(), Memory>
         ensures { OnOk result (values.new.items ≡ values.old.items
-            ++ map (λ f. field_of_span f (view_rows self.now) span.now) (fields_of_stage (stage_tree stage.now))) }
+            ++ map (λ f. field_of_span f (view_rows self.now) span.now)
+            (fields_of_stage (stage_tree stage.now))) }
     {
         match stage {
             Stage::Select(fields) => self.add_fields(fields.as_slice(), span, values),
@@ -82,7 +84,8 @@ impl<'c, 'q, 'a> TraceView<'c, 'q, 'a> {
     // What the selected fields are for a span.
     fn fields_of(&self, span: &Span) -> Result<Values, Memory>
         ensures { IfOk result (λ values.
-            values ≡ map (λ f. field_of_span f (view_rows self.now) span.now) (view_fields self.now)) }
+            values ≡ map (λ f. field_of_span f (view_rows self.now) span.now)
+            (view_fields self.now)) }
     {
         let mut values = Vec::new(self.context.alloc());
         for stage in self.stages {
@@ -93,7 +96,8 @@ impl<'c, 'q, 'a> TraceView<'c, 'q, 'a> {
 
     // A span as it is shown.
     fn hit(&self, span: &Span) -> Result<Hit, Memory>
-        ensures { IfOk result (λ hit. hit ≡ hit_of (view_fields self.now) (view_rows self.now) span.now) }
+        ensures { IfOk result
+            (λ hit. hit ≡ hit_of (view_fields self.now) (view_rows self.now) span.now) }
     {
         let fields = self.fields_of(span)?;
         Ok(Hit {
@@ -119,7 +123,8 @@ impl<'c, 'q, 'a> TraceView<'c, 'q, 'a> {
     // Adds the span at a position as it is shown, if there is one and fewer were added than are to be shown.
     fn add_hit(&self, position: usize, hits: &mut Vec<Hit>) -> Result<(), Memory>
         ensures { OnOk result (hits.new.items ≡ (if has_room self.now.most (length hits.old.items)
-            then hits.old.items ++ option_to_list (hit_at (view_fields self.now) (view_rows self.now) position)
+            then hits.old.items ++ option_to_list
+            (hit_at (view_fields self.now) (view_rows self.now) position)
             else hits.old.items)) }
     {
         if !has_room(self.most, hits.len()) {

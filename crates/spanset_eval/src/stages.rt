@@ -75,7 +75,8 @@ fn add_parts(
     parts: Vec<Part<'_>>,
     found: &mut Vec<Group>,
 ) -> Result<(), Memory>
-    ensures { OnOk result (found.new.items ≡ found.old.items ++ map (part_group by) parts.entry.items) }
+    ensures { OnOk result
+        (found.new.items ≡ found.old.items ++ map (part_group by) parts.entry.items) }
 {
     let mut parts = parts;
     let Some(last) = parts.pop() else {
@@ -123,7 +124,8 @@ fn split<'a>(
 
 // Sets a mark on each of the positions that there is.
 fn mark_members(marks: &mut [bool], members: &[usize])
-    ensures each { (y : ℕ) → y < length marks.old → mark_at marks.new y ≡ (mark_at marks.old y || list_any (λ x. x == y) members.now) }
+    ensures each { (y : ℕ) → y < length marks.old
+        → mark_at marks.new y ≡ (mark_at marks.old y || list_any (λ x. x == y) members.now) }
 {
     for position in members {
         if *position < marks.len() {

@@ -31,11 +31,13 @@ impl CoreState {
     /// The number of the next push, or why it is refused: in this order the store is read-only, it is full, or too many rows
     /// are held.
     pub(crate) fn admit(&self, batch: &Batch) -> Result<u64, PushError>
-        ensures number { (m : Machine) → HasState self.now m → IfOk result (λ number. number ≡ count_of m.history) }
+        ensures number { (m : Machine) → HasState self.now m
+            → IfOk result (λ number. number ≡ count_of m.history) }
         ensures free { (m : Machine) (moment : ℕ) → HasState self.now m →
             IfOk result (λ number. early m (Push batch.now.spans moment) ≡ None) }
         ensures refused { (m : Machine) (moment : ℕ) → HasState self.now m →
-            IfErr result (λ error. early m (Push batch.now.spans moment) ≡ Some (Refused (push_refusal error))) }
+            IfErr result (λ error.
+            early m (Push batch.now.spans moment) ≡ Some (Refused (push_refusal error))) }
         ensures no_fault { IfErr result (λ error. push_refusal error ≢ Fault) }
         ensures sure { IfOk result (λ number. (self.now.read_only ≡ None) × (number < 4294967295)
             × (number ≡ self.now.segment.first + self.now.segment.count)) }

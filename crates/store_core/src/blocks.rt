@@ -34,7 +34,8 @@ pub(crate) fn read_blocks<D: Device>(
     disk: &mut D,
     blocks: &[BlockRef],
 ) -> Result<Vec<SharedInfo>, OpenError>
-    ensures read { IfOk result (λ infos. BlocksRead (IsTrue (D.tells disk.old)) (D.held disk.old) blocks.now infos.items) }
+    ensures read { IfOk result
+        (λ infos. BlocksRead (IsTrue (D.tells disk.old)) (D.held disk.old) blocks.now infos.items) }
     // Each block then has one image.
     ensures lies { IsTrue (D.tells disk.old) → OnOk result ((x : BlockRef) → Contains blocks.now x
         → OnlyBytes x.file (bytes_of (D.held disk.old) x.file) (D.may_leave disk.new)) }
@@ -63,8 +64,10 @@ fn read_block<D: Device>(
     ensures built { IsTrue (D.tells disk.old) → IfOk result (λ info.
         (rows : List Row) × BlockHasInfo info (bytes_of (D.held disk.old) block.now.file) rows) }
     ensures lies { IsTrue (D.tells disk.old) → OnOk result
-        (OnlyBytes block.now.file (bytes_of (D.held disk.old) block.now.file) (D.may_leave disk.new)) }
-    ensures malformed { IsTrue (D.tells disk.old) → (file at : ℕ) → result ≡ Err (NotStore file at) → (file ≡ block.now.file)
+        (OnlyBytes block.now.file (bytes_of (D.held disk.old) block.now.file)
+        (D.may_leave disk.new)) }
+    ensures malformed { IsTrue (D.tells disk.old) → (file at : ℕ) → result ≡ Err (NotStore file at)
+        → (file ≡ block.now.file)
         × (block_in (D.held disk.old) block.now ≡ Err at) }
     ensures untouched { Untouched D.tells D.held D.may_leave D.moment D.left_since disk.old disk.new }
     ensures counted { CountsFault D.Device.own 0 Fault disk.old disk.new result }
@@ -88,8 +91,10 @@ fn read_block<D: Device>(
 
 // All bytes of a file, which is made to last first.
 fn last_bytes<D: Device>(alloc: Global, disk: &mut D, file: u32) -> Result<Vec<u8>, OpenError>
-    ensures bytes { IsTrue (D.tells disk.old) → IfOk result (λ bytes. bytes.items ≡ bytes_of (D.held disk.old) file) }
-    ensures lies { IsTrue (D.tells disk.old) → OnOk result (OnlyBytes file (bytes_of (D.held disk.old) file) (D.may_leave disk.new)) }
+    ensures bytes { IsTrue (D.tells disk.old)
+        → IfOk result (λ bytes. bytes.items ≡ bytes_of (D.held disk.old) file) }
+    ensures lies { IsTrue (D.tells disk.old)
+        → OnOk result (OnlyBytes file (bytes_of (D.held disk.old) file) (D.may_leave disk.new)) }
     ensures untouched { Untouched D.tells D.held D.may_leave D.moment D.left_since disk.old disk.new }
     ensures counted { CountsFault D.Device.own 0 Fault disk.old disk.new result }
     ensures a_store { (other at : ℕ) → result ≢ Err (NotStore other at) }
@@ -102,7 +107,8 @@ fn last_bytes<D: Device>(alloc: Global, disk: &mut D, file: u32) -> Result<Vec<u
 
 // All bytes of a file. What is taken for them grows with what was read: a file may be said to be longer than its bytes take room.
 fn file_bytes<D: Device>(alloc: Global, disk: &mut D, file: u32) -> Result<Vec<u8>, OpenError>
-    ensures bytes { IsTrue (D.tells disk.old) → IfOk result (λ bytes. bytes.items ≡ bytes_of (D.held disk.old) file) }
+    ensures bytes { IsTrue (D.tells disk.old)
+        → IfOk result (λ bytes. bytes.items ≡ bytes_of (D.held disk.old) file) }
     ensures untouched { Untouched D.tells D.held D.may_leave D.moment D.left_since disk.old disk.new }
     ensures counted { CountsFault D.Device.own 0 Fault disk.old disk.new result }
     ensures a_store { (other at : ℕ) → result ≢ Err (NotStore other at) }

@@ -30,7 +30,8 @@ impl<D: Device> Core<D> {
         requires names { NamesJob job.out.file 0 info }
         requires block { IsTrue (D.tells self.now.disk) →
             IsBlockOf (bytes_of (D.held self.now.disk) job.out.file) info job.rows }
-        ensures { Did D.Device.own self.old (CommitFlush job.out.number info.rows) (write_reply result) self.new }
+        ensures { Did D.Device.own self.old (CommitFlush job.out.number info.rows)
+            (write_reply result) self.new }
     {
         if let Some(faults) = self.state.read_only {
             return Err(WriteError::ReadOnly { faults });

@@ -41,16 +41,21 @@ impl CoreState {
     pub(crate) fn admit_compact(&self, alloc: Global) -> Result<Option<Vec<usize>>, BeginError>
         ensures none { (m : Machine) → HasState self.now m → IfOk result (λ found. found ≡ None →
             early m BeginCompact ≡ Some Nothing) }
-        ensures free { (m : Machine) → HasState self.now m → IfOk result (λ found. IfSome found (λ chosen.
+        ensures free { (m : Machine) → HasState self.now m
+            → IfOk result (λ found. IfSome found (λ chosen.
             early m BeginCompact ≡ None)) }
-        ensures chosen { (listed : List Block) → map ref_of listed ≡ self.now.list.blocks → IfOk result (λ found.
+        ensures chosen { (listed : List Block) → map ref_of listed ≡ self.now.list.blocks
+            → IfOk result (λ found.
             IfSome found (λ chosen. picked chosen.items listed ≡ choice listed)) }
-        ensures refused { (m : Machine) → HasState self.now m → IfErr result (λ error. error ≢ Lacking →
+        ensures refused { (m : Machine) → HasState self.now m
+            → IfErr result (λ error. error ≢ Lacking →
             early m BeginCompact ≡ Some (Refused (begin_refusal error))) }
-        ensures lacking { (m : Machine) → HasState self.now m → IfErr result (λ error. error ≡ Lacking →
+        ensures lacking { (m : Machine) → HasState self.now m
+            → IfErr result (λ error. error ≡ Lacking →
             early m BeginCompact ≡ None) }
         ensures no_fault { IfErr result (λ error. begin_refusal error ≢ IsFault) }
-        ensures sure { IfOk result (λ found. IfSome found (λ chosen. MayCompact self.now chosen.items)) }
+        ensures sure { IfOk result
+            (λ found. IfSome found (λ chosen. MayCompact self.now chosen.items)) }
     {
         if let Some(faults) = self.read_only {
             return Err(BeginError::ReadOnly { faults });
@@ -69,16 +74,21 @@ impl CoreState {
         requires no_job { self.now.jobs.compaction ≡ None }
         ensures none { (m : Machine) → HasState self.now m → IfOk result (λ found. found ≡ None →
             early m BeginCompact ≡ Some Nothing) }
-        ensures free { (m : Machine) → HasState self.now m → IfOk result (λ found. IfSome found (λ chosen.
+        ensures free { (m : Machine) → HasState self.now m
+            → IfOk result (λ found. IfSome found (λ chosen.
             early m BeginCompact ≡ None)) }
-        ensures chosen { (listed : List Block) → map ref_of listed ≡ self.now.list.blocks → IfOk result (λ found.
+        ensures chosen { (listed : List Block) → map ref_of listed ≡ self.now.list.blocks
+            → IfOk result (λ found.
             IfSome found (λ chosen. picked chosen.items listed ≡ choice listed)) }
-        ensures refused { (m : Machine) → HasState self.now m → IfErr result (λ error. error ≢ Lacking →
+        ensures refused { (m : Machine) → HasState self.now m
+            → IfErr result (λ error. error ≢ Lacking →
             early m BeginCompact ≡ Some (Refused (begin_refusal error))) }
-        ensures lacking { (m : Machine) → HasState self.now m → IfErr result (λ error. error ≡ Lacking →
+        ensures lacking { (m : Machine) → HasState self.now m
+            → IfErr result (λ error. error ≡ Lacking →
             early m BeginCompact ≡ None) }
         ensures no_fault { IfErr result (λ error. begin_refusal error ≢ IsFault) }
-        ensures sure { IfOk result (λ found. IfSome found (λ chosen. MayCompact self.now chosen.items)) }
+        ensures sure { IfOk result
+            (λ found. IfSome found (λ chosen. MayCompact self.now chosen.items)) }
     {
         let next = self.jobs.next_file;
         match choose(alloc, self.list.blocks.as_slice()) {
@@ -108,7 +118,8 @@ impl CoreState {
         chosen: &[usize],
     ) -> Result<(u8, Pin, CommitRoom), Memory>
         requires { self.now.jobs.compaction ≡ None }
-        ensures made { IfOk result (λ made. IsMade self.old chosen.now made.0 made.1 made.2 self.new) }
+        ensures made { IfOk result
+            (λ made. IsMade self.old chosen.now made.0 made.1 made.2 self.new) }
         ensures lacking { OnErr result (IsNotMade self.old self.new) }
     {
         let pinned = self.infos_at(alloc, chosen)?;
@@ -127,7 +138,8 @@ impl CoreState {
     // compaction's commit.
     fn make_room(&mut self, alloc: Global) -> Result<CommitRoom, Memory>
         requires { self.now.jobs.compaction ≡ None }
-        ensures made { IfOk result (λ room. HasRoomToBegin self.old.list self.new.infos self.new.jobs room) }
+        ensures made { IfOk result
+            (λ room. HasRoomToBegin self.old.list self.new.infos self.new.jobs room) }
         ensures still { HasRoomStill self.old self.new }
         ensures pins { self.new.pins ≡ self.old.pins }
     {
@@ -177,12 +189,16 @@ impl<D: Device> Core<D> {
     /// All memory is taken before the first device call, that of the compaction's end and of an open flush's too. After `Fault` the
     /// store is read-only.
     pub fn begin_compact(&mut self) -> Result<Option<CompactJob>, BeginError>
-        ensures begun { Did D.Device.own self.old BeginCompact (begin_compact_reply result) self.new }
+        ensures begun { Did D.Device.own self.old BeginCompact
+            (begin_compact_reply result) self.new }
         ensures fresh { IfOk result (λ begun. IfSome begun (λ job. job.out.written ≡ 0)) }
-        ensures joins { (m : Machine) → CoreShows D.Device.own self.old m → IfOk result (λ begun. IfSome begun (λ job.
+        ensures joins { (m : Machine) → CoreShows D.Device.own self.old m
+            → IfOk result (λ begun. IfSome begun (λ job.
             JoinsChoice (λ infos. infos ≡ self.old.state.infos.items) job.level job.pin.blocks)) }
-        ensures blocks { IsTrue (D.tells self.new.disk) → IfOk result (λ begun. IfSome begun (λ job. (m : Machine) →
-            CoreStandsFor D.Device.own self.new m → AreBlocks (λ file. bytes_of (D.held self.new.disk) file) job.pin.blocks)) }
+        ensures blocks { IsTrue (D.tells self.new.disk)
+            → IfOk result (λ begun. IfSome begun (λ job. (m : Machine) →
+            CoreStandsFor D.Device.own self.new m
+            → AreBlocks (λ file. bytes_of (D.held self.new.disk) file) job.pin.blocks)) }
     {
         // The level of what is joined has room.
         a_choice_is_few();
@@ -219,12 +235,15 @@ impl<D: Device> Core<D> {
     /// It makes seven device calls at most, and takes no memory. After `Fault` the store is read-only, its list and looks are in
     /// memory as they were, and the job stays open; a later opening may find the list with the new block or the one before it.
     pub fn commit_compact(&mut self, job: CompactJob, info: SharedInfo) -> Result<(), WriteError>
-        requires job { (m : Machine) × CoreShows D.Device.own self.now m × OpenIn m (compact_of job) }
+        requires job { (m : Machine) × CoreShows D.Device.own self.now m
+            × OpenIn m (compact_of job) }
         requires size { (1 ≤ info.rows) × (info.rows ≤ 1048576) }
         requires names { NamesJob job.out.file job.level info }
-        requires block { IsTrue (D.tells self.now.disk) → IsJoinedBlock (λ file. bytes_of (D.held self.now.disk) file)
+        requires block { IsTrue (D.tells self.now.disk)
+            → IsJoinedBlock (λ file. bytes_of (D.held self.now.disk) file)
             (bytes_of (D.held self.now.disk) job.out.file) info job.pin.blocks }
-        ensures { Did D.Device.own self.old (CommitCompact job.out.number info.rows) (write_reply result) self.new }
+        ensures { Did D.Device.own self.old (CommitCompact job.out.number info.rows)
+            (write_reply result) self.new }
     {
         if let Some(faults) = self.state.read_only {
             return Err(WriteError::ReadOnly { faults });
@@ -250,7 +269,8 @@ impl<D: Device> Core<D> {
 
     /// Gives a compaction up: its file becomes loose, and its pin ends. It makes no device call, and takes no memory.
     pub fn drop_compact(&mut self, job: CompactJob)
-        requires job { (m : Machine) × CoreShows D.Device.own self.now m × OpenIn m (compact_of job) }
+        requires job { (m : Machine) × CoreShows D.Device.own self.now m
+            × OpenIn m (compact_of job) }
         ensures { Did D.Device.own self.old (DropCompact job.out.number) Fine self.new }
     {
         self.state.jobs.drop_compact();

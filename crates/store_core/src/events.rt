@@ -89,7 +89,8 @@ impl<D: Device> Core<D> {
 
     /// Gives a look back, and ends its pin. It makes no device call.
     pub fn end_look(&mut self, look: Look)
-        requires open { (m : Machine) × CoreShows D.Device.own self.now m × IsLookPin look.pin.number m.state }
+        requires open { (m : Machine) × CoreShows D.Device.own self.now m
+            × IsLookPin look.pin.number m.state }
         ensures did { Did D.Device.own self.old (Done look.pin.number) Fine self.new }
         ensures left { IsLeft D.Device.own self.old self.new }
     {

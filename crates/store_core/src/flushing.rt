@@ -31,7 +31,8 @@ impl CoreState {
     /// Whether there are rows for a flush, or why none begins: in this order the store is read-only, a flush is open, the head is
     /// empty, or no file numbers are left.
     pub(crate) fn admit_flush(&self) -> Result<bool, BeginError>
-        ensures free { (m : Machine) → HasState self.now m → IfOk result (λ some. early m BeginFlush ≡ unless_rows some) }
+        ensures free { (m : Machine) → HasState self.now m
+            → IfOk result (λ some. early m BeginFlush ≡ unless_rows some) }
         ensures refused { (m : Machine) → HasState self.now m →
             IfErr result (λ error. early m BeginFlush ≡ Some (Refused (begin_refusal error))) }
         ensures no_fault { IfErr result (λ error. begin_refusal error ≢ IsFault) }
@@ -46,7 +47,8 @@ impl CoreState {
     // The same in a store that isn't read-only.
     fn admit_job(&self) -> Result<bool, BeginError>
         requires { self.now.read_only ≡ None }
-        ensures free { (m : Machine) → HasState self.now m → IfOk result (λ some. early m BeginFlush ≡ unless_rows some) }
+        ensures free { (m : Machine) → HasState self.now m
+            → IfOk result (λ some. early m BeginFlush ≡ unless_rows some) }
         ensures refused { (m : Machine) → HasState self.now m →
             IfErr result (λ error. early m BeginFlush ≡ Some (Refused (begin_refusal error))) }
         ensures no_fault { IfErr result (λ error. begin_refusal error ≢ IsFault) }
@@ -62,7 +64,8 @@ impl CoreState {
     fn admit_rows(&self) -> Result<bool, BeginError>
         requires writes { self.now.read_only ≡ None }
         requires none { self.now.jobs.flush ≡ None }
-        ensures free { (m : Machine) → HasState self.now m → IfOk result (λ some. early m BeginFlush ≡ unless_rows some) }
+        ensures free { (m : Machine) → HasState self.now m
+            → IfOk result (λ some. early m BeginFlush ≡ unless_rows some) }
         ensures refused { (m : Machine) → HasState self.now m →
             IfErr result (λ error. early m BeginFlush ≡ Some (Refused (begin_refusal error))) }
         ensures no_fault { IfErr result (λ error. begin_refusal error ≢ IsFault) }
@@ -130,16 +133,20 @@ impl<D: Device> Core<D> {
     /// Writes bytes behind those that were written to a job's file, and counts them; a refusal counts none. It makes one device
     /// call, and takes no memory. After `Fault` the store is read-only, and nothing is known of the file's length.
     pub fn write_piece(&mut self, out: &mut JobFile, bytes: &[u8]) -> Result<(), WriteError>
-        requires job { (m : Machine) × CoreShows D.Device.own self.now m × IsJobOf out.now (OpenIn m) }
+        requires job { (m : Machine) × CoreShows D.Device.own self.now m
+            × IsJobOf out.now (OpenIn m) }
         requires whole { IsTrue (D.tells self.now.disk) → self.now.state.read_only ≡ None →
             HasWritten (λ file. bytes_of (D.held self.now.disk) file) out.now }
-        ensures did { Did D.Device.own self.old (WritePiece out.old.number out.old.file bytes.now) (write_reply result) self.new }
+        ensures did { Did D.Device.own self.old (WritePiece out.old.number out.old.file bytes.now)
+            (write_reply result) self.new }
         ensures raised { OnOk result (out.new.written ≡ out.old.written + length bytes.now) }
         ensures kept { OnErr result (out.new.written ≡ out.old.written) }
-        ensures whole { IsTrue (D.tells self.old.disk) → HasWritten (λ file. bytes_of (D.held self.old.disk) file) out.old →
+        ensures whole { IsTrue (D.tells self.old.disk)
+            → HasWritten (λ file. bytes_of (D.held self.old.disk) file) out.old →
             result ≢ Err Fault → HasWritten (λ file. bytes_of (D.held self.new.disk) file) out.new }
         ensures broken { result ≡ Err Fault → self.new.state.read_only ≢ None }
-        ensures refused { self.old.state.read_only ≢ None → (faults : ℕ) × (result ≡ Err (ReadOnly faults)) }
+        ensures refused { self.old.state.read_only ≢ None
+            → (faults : ℕ) × (result ≡ Err (ReadOnly faults)) }
         // No byte is asked to be written at 2^63 or more, unless the piece would end there.
         ensures near { out.old.written + length bytes.now < 2 ^ 63 →
             D.far_writes self.new.disk ≡ D.far_writes self.old.disk }

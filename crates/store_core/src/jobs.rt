@@ -75,10 +75,12 @@ impl Jobs {
         requires { open_jobs self.now ≤ 1 }
         ensures fits { IfOk result (λ room. CommitFits room list.now (vec_len self.new.loose) 2) }
         ensures others { OnOk result (HaveRoomFor 2 self.new list.now) }
-        ensures room { OnOk result (vec_len self.new.loose + length list.now.segments + length list.now.blocks + 4
+        ensures room { OnOk result
+            (vec_len self.new.loose + length list.now.segments + length list.now.blocks + 4
             ≤ vec_capacity self.new.loose) }
         ensures same { SameJobs self.old self.new }
-        ensures refused { OnErr result ((self.new.flush ≡ self.old.flush) × (self.new.compaction ≡ self.old.compaction)
+        ensures refused { OnErr result
+            ((self.new.flush ≡ self.old.flush) × (self.new.compaction ≡ self.old.compaction)
             × (vec_capacity self.old.loose ≤ vec_capacity self.new.loose)) }
     {
         let (segments, blocks) = (list.segments.len(), list.blocks.len());
@@ -96,10 +98,13 @@ impl Jobs {
     // The open job, if there is one, gets this room for its commit.
     fn renew(&mut self, room: CommitRoom)
         requires { open_jobs self.now ≤ 1 }
-        ensures rooms { (list : ListBody) (count : ℕ) → CommitFits room list (vec_len self.old.loose) count →
+        ensures rooms { (list : ListBody) (count : ℕ)
+            → CommitFits room list (vec_len self.old.loose) count →
             HaveRoomFor count self.new list }
-        ensures same { SameFlush self.old.flush self.new.flush × SameCompaction self.old.compaction self.new.compaction }
-        ensures others { (self.new.begun ≡ self.old.begun) × (self.new.next_file ≡ self.old.next_file)
+        ensures same { SameFlush self.old.flush self.new.flush
+            × SameCompaction self.old.compaction self.new.compaction }
+        ensures others { (self.new.begun ≡ self.old.begun)
+            × (self.new.next_file ≡ self.old.next_file)
             × (self.new.loose ≡ self.old.loose) }
     {
         if let Some(flush) = &mut self.flush {
@@ -123,10 +128,13 @@ impl Jobs {
     /// A flush begins with the next files, and gets its number.
     pub(crate) fn begin_flush(&mut self, files: FlushFiles, room: CommitRoom) -> u64
         requires { self.now.next_file < 4294967294 }
-        ensures number { (result ≡ self.new.begun) × (self.new.begun ≡ min (self.old.begun + 1) (2 ^ 64 - 1)) }
+        ensures number { (result ≡ self.new.begun)
+            × (self.new.begun ≡ min (self.old.begun + 1) (2 ^ 64 - 1)) }
         ensures next_file { self.new.next_file ≡ self.old.next_file + 2 }
-        ensures flush { self.new.flush ≡ Some (record { number = self.new.begun; files = files; room = Some room }) }
-        ensures same { (self.new.loose ≡ self.old.loose) × (self.new.compaction ≡ self.old.compaction) }
+        ensures flush { self.new.flush
+            ≡ Some (record { number = self.new.begun; files = files; room = Some room }) }
+        ensures same { (self.new.loose ≡ self.old.loose)
+            × (self.new.compaction ≡ self.old.compaction) }
     {
         self.begun = self.begun.saturating_add(1);
         self.next_file += 2;
@@ -141,7 +149,8 @@ impl Jobs {
     /// A compaction begins with the next file, and gets its number.
     pub(crate) fn begin_compact(&mut self, level: u8, pin: u64, room: CommitRoom) -> u64
         requires { self.now.next_file < 4294967294 }
-        ensures number { (result ≡ self.new.begun) × (self.new.begun ≡ min (self.old.begun + 1) (2 ^ 64 - 1)) }
+        ensures number { (result ≡ self.new.begun)
+            × (self.new.begun ≡ min (self.old.begun + 1) (2 ^ 64 - 1)) }
         ensures next_file { self.new.next_file ≡ self.old.next_file + 1 }
         ensures compaction { self.new.compaction ≡ Some (record {
           number = self.new.begun;
@@ -167,9 +176,11 @@ impl Jobs {
 
     /// The open compaction is given up, and its file becomes loose. It takes no memory.
     pub(crate) fn drop_compact(&mut self)
-        requires { IfSome self.now.compaction (λ known. vec_len self.now.loose + 1 ≤ vec_capacity self.now.loose) }
+        requires { IfSome self.now.compaction
+            (λ known. vec_len self.now.loose + 1 ≤ vec_capacity self.now.loose) }
         ensures gone { self.new.compaction ≡ None }
-        ensures loose { self.new.loose.items ≡ self.old.loose.items ++ files_of_compaction self.old.compaction }
+        ensures loose { self.new.loose.items
+            ≡ self.old.loose.items ++ files_of_compaction self.old.compaction }
         ensures same { (self.new.begun ≡ self.old.begun) × (self.new.next_file ≡ self.old.next_file)
             × (self.new.flush ≡ self.old.flush) }
         ensures room { vec_capacity self.old.loose ≤ vec_capacity self.new.loose }
@@ -184,8 +195,10 @@ impl Jobs {
     pub(crate) fn take_compact_room(&mut self) -> (u32, u8, CommitRoom)
         requires open { IsSome self.now.compaction }
         requires room { IfSome self.now.compaction (λ known. IsSome known.room) }
-        ensures taken { IfSome self.old.compaction (λ known. (result.0 ≡ known.file) × (result.1 ≡ known.level)
-            × (known.room ≡ Some result.2) × (self.new.compaction ≡ Some (record known { room = None }))) }
+        ensures taken { IfSome self.old.compaction
+            (λ known. (result.0 ≡ known.file) × (result.1 ≡ known.level)
+            × (known.room ≡ Some result.2)
+            × (self.new.compaction ≡ Some (record known { room = None }))) }
         ensures same { (self.new.begun ≡ self.old.begun) × (self.new.next_file ≡ self.old.next_file)
             × (self.new.loose ≡ self.old.loose) × (self.new.flush ≡ self.old.flush) }
     {
@@ -212,9 +225,11 @@ impl Jobs {
 
     /// The open flush is given up, and its files become loose. It takes no memory.
     pub(crate) fn drop_flush(&mut self)
-        requires { IfSome self.now.flush (λ known. vec_len self.now.loose + 2 ≤ vec_capacity self.now.loose) }
+        requires { IfSome self.now.flush
+            (λ known. vec_len self.now.loose + 2 ≤ vec_capacity self.now.loose) }
         ensures gone { self.new.flush ≡ None }
-        ensures loose { self.new.loose.items ≡ self.old.loose.items ++ files_of_flush self.old.flush }
+        ensures loose { self.new.loose.items
+            ≡ self.old.loose.items ++ files_of_flush self.old.flush }
         ensures same { (self.new.begun ≡ self.old.begun) × (self.new.next_file ≡ self.old.next_file)
             × (self.new.compaction ≡ self.old.compaction) }
         ensures room { vec_capacity self.old.loose ≤ vec_capacity self.new.loose }
@@ -229,7 +244,8 @@ impl Jobs {
     pub(crate) fn take_room(&mut self) -> (FlushFiles, CommitRoom)
         requires open { IsSome self.now.flush }
         requires room { IfSome self.now.flush (λ known. IsSome known.room) }
-        ensures taken { IfSome self.old.flush (λ known. (result.0 ≡ known.files) × (known.room ≡ Some result.1)
+        ensures taken { IfSome self.old.flush
+            (λ known. (result.0 ≡ known.files) × (known.room ≡ Some result.1)
             × (self.new.flush ≡ Some (record known { room = None }))) }
         ensures same { (self.new.begun ≡ self.old.begun) × (self.new.next_file ≡ self.old.next_file)
             × (self.new.loose ≡ self.old.loose) × (self.new.compaction ≡ self.old.compaction) }
@@ -259,7 +275,8 @@ impl Jobs {
         requires room { length named.now ≤ vec_capacity self.now.loose }
         ensures files { IfSome self.old.flush (λ known. result ≡ known.files) }
         ensures gone { self.new.flush ≡ None }
-        ensures loose { self.new.loose.items ≡ take (length named.now - one_if self.old.compaction) named.now }
+        ensures loose { self.new.loose.items
+            ≡ take (length named.now - one_if self.old.compaction) named.now }
         ensures same { (self.new.begun ≡ self.old.begun) × (self.new.next_file ≡ self.old.next_file)
             × (self.new.compaction ≡ self.old.compaction) }
         ensures room { vec_capacity self.old.loose ≤ vec_capacity self.new.loose }
@@ -278,7 +295,8 @@ impl Jobs {
         requires other { 2 * one_if self.now.flush ≤ length named.now }
         requires room { length named.now ≤ vec_capacity self.now.loose }
         ensures gone { self.new.compaction ≡ None }
-        ensures loose { self.new.loose.items ≡ take (length named.now - 2 * one_if self.old.flush) named.now }
+        ensures loose { self.new.loose.items
+            ≡ take (length named.now - 2 * one_if self.old.flush) named.now }
         ensures same { (self.new.begun ≡ self.old.begun) × (self.new.next_file ≡ self.old.next_file)
             × (self.new.flush ≡ self.old.flush) }
         ensures room { vec_capacity self.old.loose ≤ vec_capacity self.new.loose }

@@ -19,6 +19,7 @@ pub fn images_since_opening<D: Device>(old: &Core<D>, new: &Core<D>)
         → StandsSince D.Device.own old.now.disk (count_of m.history) old.now m }
     // Each event keeps it.
     ensures goes_on { (e : Event) (r : Reply) (m : Machine) (start : D) (least : ℕ)
-        → (did : Did D.Device.own old.now e r new.now) → (since : StandsSince D.Device.own start least old.now m)
+        → (did : Did D.Device.own old.now e r new.now)
+        → (since : StandsSince D.Device.own start least old.now m)
         → StandsSince D.Device.own start least new.now (did.stepped m since.stands).machine }
 {}

@@ -33,7 +33,8 @@ pub(crate) fn empty_left<D: Device>(disk: &mut D, first: u32) -> Result<(), Fail
     ensures ready { IsTrue (D.tells disk.old) → (body : ListBody) →
         IsReady (D.held disk.old) (D.may_leave disk.old) (Some body) → body.next_file ≤ first →
         IsReady (D.held disk.new) (D.may_leave disk.new) (Some body) }
-    ensures freed { IsTrue (D.tells disk.old) → OnOk result (AreFreed (D.held disk.old) first (D.may_leave disk.new)) }
+    ensures freed { IsTrue (D.tells disk.old)
+        → OnOk result (AreFreed (D.held disk.old) first (D.may_leave disk.new)) }
     ensures others { IsTrue (D.tells disk.old) → OthersStay (λ file. first ≤ file)
         (D.held disk.old) (D.held disk.new) (D.may_leave disk.old) (D.may_leave disk.new) }
     ensures counted { Counts D.Device.own 0 (IsOk result) (IsErr result) disk.old disk.new }
@@ -48,7 +49,8 @@ pub(crate) fn empty_left<D: Device>(disk: &mut D, first: u32) -> Result<(), Fail
 // The first number from that one on that eight empty files follow, or the last that a job may get.
 fn end_of_left<D: Device>(disk: &mut D, first: u32) -> Result<u32, Failed>
     ensures from { IfOk result (λ end. first ≤ end) }
-    ensures empty { IsTrue (D.tells disk.old) → IfOk result (λ end. (file : ℕ) → end ≤ file → file < end + 8 →
+    ensures empty { IsTrue (D.tells disk.old)
+        → IfOk result (λ end. (file : ℕ) → end ≤ file → file < end + 8 →
         file < 4294967295 → OnlyBytes file [] (D.may_leave disk.new)) }
     ensures untouched { Untouched D.tells D.held D.may_leave D.moment D.left_since disk.old disk.new }
     ensures counted { Counts D.Device.own 0 (IsOk result) (IsErr result) disk.old disk.new }

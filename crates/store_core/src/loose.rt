@@ -33,14 +33,16 @@ pub fn empty_loose<D: Device>(
     list: ListBody,
 ) -> Result<ListBody, OpenError>
     requires rules { MeetsRules list }
-    requires ready { IsTrue (D.tells disk.old) → IsReady (D.held disk.old) (D.may_leave disk.old) (Some list) }
+    requires ready { IsTrue (D.tells disk.old)
+        → IsReady (D.held disk.old) (D.may_leave disk.old) (Some list) }
     ensures list { IfOk result (λ next. next ≡ without_loose list) }
     // Whenever a crash comes, what is stored is kept, and what is left stays tidy.
     ensures kept { KeepsDisk D.Device.own disk.old disk.new }
     ensures ready { IsTrue (D.tells disk.old) →
         IfOk result (λ next. IsReady (D.held disk.new) (D.may_leave disk.new) (Some next)) }
     ensures others { IsTrue (D.tells disk.old) → OnOk result
-        (OthersStay (IsSpare list) (D.held disk.old) (D.held disk.new) (D.may_leave disk.old) (D.may_leave disk.new)) }
+        (OthersStay (IsSpare list) (D.held disk.old) (D.held disk.new) (D.may_leave disk.old)
+        (D.may_leave disk.new)) }
     ensures freed { IsTrue (D.tells disk.old) →
         OnOk result (AreFreed (D.held disk.old) list.next_file (D.may_leave disk.new)) }
     ensures counted { CountsFault D.Device.own 0 Fault disk.old disk.new result }
@@ -95,16 +97,21 @@ fn take_loose(alloc: Global, list: ListBody) -> (ListBody, FileList)
 fn free_files<D: Device>(disk: &mut D, files: &[u32], first: u32) -> Result<(), Failed>
     requires given { 2 ≤ first }
     ensures kept { IsTrue (D.tells disk.old) → (body : ListBody) →
-        IsReady (D.held disk.old) (D.may_leave disk.old) (Some body) → AreUnused body files.now → body.next_file ≤ first →
+        IsReady (D.held disk.old) (D.may_leave disk.old) (Some body) → AreUnused body files.now
+        → body.next_file ≤ first →
         Run KeepsStored D.moment D.left_since D.may_leave disk.old disk.new }
     ensures ready { IsTrue (D.tells disk.old) → (body : ListBody) →
-        IsReady (D.held disk.old) (D.may_leave disk.old) (Some body) → AreUnused body files.now → body.next_file ≤ first →
+        IsReady (D.held disk.old) (D.may_leave disk.old) (Some body) → AreUnused body files.now
+        → body.next_file ≤ first →
         IsReady (D.held disk.new) (D.may_leave disk.new) (Some body) }
-    ensures emptied { IsTrue (D.tells disk.old) → OnOk result ((file : ℕ) → Contains files.now file → 2 ≤ file → file < first
+    ensures emptied { IsTrue (D.tells disk.old)
+        → OnOk result ((file : ℕ) → Contains files.now file → 2 ≤ file → file < first
         → OnlyBytes file [] (D.may_leave disk.new)) }
-    ensures freed { IsTrue (D.tells disk.old) → ((file : ℕ) → Contains files.now file → file < first)
+    ensures freed { IsTrue (D.tells disk.old)
+        → ((file : ℕ) → Contains files.now file → file < first)
         → OnOk result (AreFreed (D.held disk.old) first (D.may_leave disk.new)) }
-    ensures others { IsTrue (D.tells disk.old) → OthersStay (λ file. (first ≤ file) ⊎ Contains files.now file)
+    ensures others { IsTrue (D.tells disk.old)
+        → OthersStay (λ file. (first ≤ file) ⊎ Contains files.now file)
         (D.held disk.old) (D.held disk.new) (D.may_leave disk.old) (D.may_leave disk.new) }
     ensures counted { Counts D.Device.own 0 (IsOk result) (IsErr result) disk.old disk.new }
 {
@@ -120,20 +127,28 @@ pub(crate) fn commit_without<D: Device>(
     text: &PreparedList,
 ) -> Result<(), Failed>
     ensures kept { IsTrue (D.tells disk.old) → (body : ListBody) (next_file : ℕ) (loose : List ℕ) →
-        IsReady (D.held disk.old) (D.may_leave disk.old) (Some body) → MayEmpty body next_file loose files.now →
+        IsReady (D.held disk.old) (D.may_leave disk.old) (Some body)
+        → MayEmpty body next_file loose files.now →
         IsListText text.now (next_with body next_file loose) →
         Run KeepsStored D.moment D.left_since D.may_leave disk.old disk.new }
     ensures ready { IsTrue (D.tells disk.old) → (body : ListBody) (next_file : ℕ) (loose : List ℕ) →
-        IsReady (D.held disk.old) (D.may_leave disk.old) (Some body) → MayEmpty body next_file loose files.now →
+        IsReady (D.held disk.old) (D.may_leave disk.old) (Some body)
+        → MayEmpty body next_file loose files.now →
         IsListText text.now (next_with body next_file loose) →
-        OnOk result (IsReady (D.held disk.new) (D.may_leave disk.new) (Some (next_with body next_file loose))) }
-    ensures others { IsTrue (D.tells disk.old) → (body : ListBody) (next_file : ℕ) (loose : List ℕ) →
-        IsReady (D.held disk.old) (D.may_leave disk.old) (Some body) → MayEmpty body next_file loose files.now →
+        OnOk result (IsReady (D.held disk.new) (D.may_leave disk.new)
+        (Some (next_with body next_file loose))) }
+    ensures others { IsTrue (D.tells disk.old)
+        → (body : ListBody) (next_file : ℕ) (loose : List ℕ) →
+        IsReady (D.held disk.old) (D.may_leave disk.old) (Some body)
+        → MayEmpty body next_file loose files.now →
         IsListText text.now (next_with body next_file loose) →
-        OthersStay (Contains files.now) (D.held disk.old) (D.held disk.new) (D.may_leave disk.old) (D.may_leave disk.new) }
-    ensures still { IsTrue (D.tells disk.old) → (file : ℕ) → 2 ≤ file → (Contains files.now file → ⊥) →
+        OthersStay (Contains files.now) (D.held disk.old) (D.held disk.new) (D.may_leave disk.old)
+        (D.may_leave disk.new) }
+    ensures still { IsTrue (D.tells disk.old) → (file : ℕ) → 2 ≤ file
+        → (Contains files.now file → ⊥) →
         bytes_of (D.held disk.new) file ≡ bytes_of (D.held disk.old) file }
-    ensures counted { Calls D.Device.own (2 * length files.now + 6) (1 + length text.now.text) disk.old disk.new result }
+    ensures counted { Calls D.Device.own (2 * length files.now + 6)
+        (1 + length text.now.text) disk.old disk.new result }
 {
     empty_files(disk, files)?;
     commit(disk, text)
@@ -150,7 +165,8 @@ fn empty_files<D: Device>(disk: &mut D, files: &[u32]) -> Result<(), Failed>
     ensures emptied { IsTrue (D.tells disk.old) → OnOk result ((file : ℕ) → Contains files.now file
         → OnlyBytes file [] (D.may_leave disk.new)) }
     ensures others { IsTrue (D.tells disk.old) →
-        OthersStay (Contains files.now) (D.held disk.old) (D.held disk.new) (D.may_leave disk.old) (D.may_leave disk.new) }
+        OthersStay (Contains files.now) (D.held disk.old) (D.held disk.new) (D.may_leave disk.old)
+        (D.may_leave disk.new) }
     ensures counted { Calls D.Device.own (2 * length files.now) 0 disk.old disk.new result }
 {
     for file in files {

@@ -18,12 +18,17 @@ pub(crate) fn make_files<D: Device>(disk: &mut D, files: FlushFiles) -> Result<(
     // Whenever a crash comes, each file below the two is as it was.
     ensures any_moment { (limit : ℕ) → limit ≤ files.block → limit ≤ files.segment →
         Run (SameBelow limit) D.moment D.left_since D.may_leave disk.old disk.new }
-    ensures others { IsTrue (D.tells disk.old) → (file : ℕ) → file ≢ files.block → file ≢ files.segment →
+    ensures others { IsTrue (D.tells disk.old) → (file : ℕ) → file ≢ files.block
+        → file ≢ files.segment →
         bytes_of (D.held disk.new) file ≡ bytes_of (D.held disk.old) file }
-    ensures empty { IsTrue (D.tells disk.old) → OnOk result (IsEmptied (D.held disk.new) (D.may_leave disk.new) files.block) }
+    ensures empty { IsTrue (D.tells disk.old)
+        → OnOk result (IsEmptied (D.held disk.new) (D.may_leave disk.new) files.block) }
     // The segment's first record may have any number.
-    ensures segment { IsTrue (D.tells disk.old) → OnOk result (((first : ℕ) → SegmentHolds first [] 1 (bytes_of (D.held disk.new) files.segment))
-        × OnlyBytes files.segment (bytes_of (D.held disk.new) files.segment) (D.may_leave disk.new)) }
+    ensures segment { IsTrue (D.tells disk.old)
+        → OnOk result (((first : ℕ)
+        → SegmentHolds first [] 1 (bytes_of (D.held disk.new) files.segment))
+        × OnlyBytes files.segment (bytes_of (D.held disk.new) files.segment)
+        (D.may_leave disk.new)) }
     ensures counted { Calls D.Device.own 5 2 disk.old disk.new result }
 {
     cut_through(disk, files.block, 0)?;

@@ -33,20 +33,23 @@ pub fn open_new<D: Device>(
     cache: PageCache,
 ) -> Result<Core<D>, (OpenError, D)>
     requires vacant { IsTrue (D.tells disk) → IsReady (D.held disk) (D.may_leave disk) None }
-    ensures stands { IfOk result (λ core. (h : History) → IsEmptyHistory h → CoreStandsFor D.Device.own core (new_machine h)) }
+    ensures stands { IfOk result (λ core. (h : History) → IsEmptyHistory h
+        → CoreStandsFor D.Device.own core (new_machine h)) }
     // Whenever a crash comes, nothing is stored, and what is left is tidy.
     ensures any_moment { IfOk result (λ core. IsTrue (D.tells disk) →
         LeavesOnly D.moment D.left_since disk core.disk StoresNothing) }
     ensures any_moment_refused { IfErr result (λ e. IsTrue (D.tells disk) →
         LeavesOnly D.moment D.left_since disk e.1 StoresNothing) }
     ensures counted { IfOk result (λ core. Counts D.Device.own 0 (Unit {0}) ⊥ disk core.disk) }
-    ensures counted_refused { IfErr result (λ e. Counts D.Device.own 0 (e.0 ≢ Fault) (e.0 ≡ Fault) disk e.1) }
+    ensures counted_refused { IfErr result
+        (λ e. Counts D.Device.own 0 (e.0 ≢ Fault) (e.0 ≡ Fault) disk e.1) }
     ensures a_store { IfErr result (λ e. (file at : ℕ) → e.0 ≢ NotStore file at) }
     ensures unchanged { IfErr result (λ e. e.0 ≢ Fault → e.1 ≡ disk) }
     ensures list { IfOk result (λ core. core.state.list ≡ new_list) }
     ensures frames { IfOk result (λ core. core.cache ≡ cache) }
     ensures ends { IfOk result (λ core. core.since.moment ≡ D.moment core.disk) }
-    ensures ready { IfOk result (λ core. IsTrue (D.tells disk) → IsReady (D.held core.disk) (D.may_leave core.disk) (Some core.state.list)) }
+    ensures ready { IfOk result (λ core. IsTrue (D.tells disk)
+        → IsReady (D.held core.disk) (D.may_leave core.disk) (Some core.state.list)) }
 {
     let mut disk = disk;
     match make_store(alloc, &mut disk) {
@@ -85,11 +88,14 @@ fn new_state(alloc: Global, list: ListBody) -> CoreState
 /// Makes a new store on a disk whose slots are vacant: an empty segment, and a list that names it. All memory is taken before the
 /// disk is changed.
 pub fn make_store<D: Device>(alloc: Global, disk: &mut D) -> Result<ListBody, OpenError>
-    requires vacant { IsTrue (D.tells disk.old) → IsReady (D.held disk.old) (D.may_leave disk.old) None }
+    requires vacant { IsTrue (D.tells disk.old)
+        → IsReady (D.held disk.old) (D.may_leave disk.old) None }
     ensures list { IfOk result (λ list. list ≡ new_list) }
     // Whenever a crash comes, nothing is stored, and what is left is tidy.
-    ensures any_moment { IsTrue (D.tells disk.old) → LeavesOnly D.moment D.left_since disk.old disk.new StoresNothing }
-    ensures made { IsTrue (D.tells disk.old) → OnOk result (IsNewStore (D.held disk.new) (D.may_leave disk.new)) }
+    ensures any_moment { IsTrue (D.tells disk.old)
+        → LeavesOnly D.moment D.left_since disk.old disk.new StoresNothing }
+    ensures made { IsTrue (D.tells disk.old)
+        → OnOk result (IsNewStore (D.held disk.new) (D.may_leave disk.new)) }
     ensures counted { CountsFault D.Device.own 0 Fault disk.old disk.new result }
     ensures a_store { (file at : ℕ) → result ≢ Err (NotStore file at) }
     ensures unchanged { IfErr result (λ error. error ≢ Fault → disk.new ≡ disk.old) }

@@ -24,11 +24,13 @@ impl CoreState {
         requires few { length_of self.now ≤ 4294967295 }
         requires rules { IfSome self.now.jobs.flush (λ known. (next : ListBody) →
             IsNextList self.now known.files rows next → MeetsRules next) }
-        ensures list { IfSome self.old.jobs.flush (λ known. IsNextList self.old known.files rows result.0) }
+        ensures list { IfSome self.old.jobs.flush
+            (λ known. IsNextList self.old known.files rows result.0) }
         ensures text { IsListText result.1 result.0 }
         ensures flush { IfSome self.old.jobs.flush (λ known.
             self.new.jobs.flush ≡ Some (record known { room = None })) }
-        ensures same { self.new ≡ record self.old { jobs = record self.old.jobs { flush = self.new.jobs.flush } } }
+        ensures same { self.new
+            ≡ record self.old { jobs = record self.old.jobs { flush = self.new.jobs.flush } } }
     {
         let first = self.length();
         let floor = floor_of(first, self.live.least_number());
@@ -65,11 +67,14 @@ impl CoreState {
         requires loose { length list.loose ≤ vec_capacity self.now.jobs.loose }
         ensures list { self.new.list ≡ list }
         ensures infos { self.new.infos.items ≡ self.old.infos.items ++ info ∷ [] }
-        ensures segment { IfSome self.old.jobs.flush (λ known. self.new.segment.file ≡ known.files.segment) }
+        ensures segment { IfSome self.old.jobs.flush
+            (λ known. self.new.segment.file ≡ known.files.segment) }
         ensures empty { (self.new.segment.first ≡ length_of self.old) × (self.new.segment.count ≡ 0)
             × (self.new.segment.gate ≡ 1) }
-        ensures jobs { (self.new.jobs.flush ≡ None) × (self.new.jobs.compaction ≡ self.old.jobs.compaction)
-            × (self.new.jobs.begun ≡ self.old.jobs.begun) × (self.new.jobs.next_file ≡ self.old.jobs.next_file) }
+        ensures jobs { (self.new.jobs.flush ≡ None)
+            × (self.new.jobs.compaction ≡ self.old.jobs.compaction)
+            × (self.new.jobs.begun ≡ self.old.jobs.begun)
+            × (self.new.jobs.next_file ≡ self.old.jobs.next_file) }
         ensures loose { self.new.jobs.loose.items
             ≡ take (length list.loose - one_if self.old.jobs.compaction) list.loose }
         ensures room { (vec_capacity self.old.jobs.loose ≤ vec_capacity self.new.jobs.loose)
@@ -94,11 +99,13 @@ impl CoreState {
         requires room { HasCommitRoom self.now.jobs self.now.list self.now.infos }
         requires rules { IfSome self.now.jobs.compaction (λ known. (next : ListBody) →
             IsJoinedList self.now known joined.now rows next → MeetsRules next) }
-        ensures list { IfSome self.old.jobs.compaction (λ known. IsJoinedList self.old known joined.now rows result.0) }
+        ensures list { IfSome self.old.jobs.compaction
+            (λ known. IsJoinedList self.old known joined.now rows result.0) }
         ensures text { IsListText result.1 result.0 }
         ensures compaction { IfSome self.old.jobs.compaction (λ known.
             self.new.jobs.compaction ≡ Some (record known { room = None })) }
-        ensures same { self.new ≡ record self.old { jobs = record self.old.jobs { compaction = self.new.jobs.compaction } } }
+        ensures same { self.new
+            ≡ record self.old { jobs = record self.old.jobs { compaction = self.new.jobs.compaction } } }
     {
         let (file, level, room) = self.jobs.take_compact_room();
         let flush = self.jobs.flush_files();
@@ -121,14 +128,18 @@ impl CoreState {
         requires other { 2 * one_if self.now.jobs.flush ≤ length list.loose }
         requires loose { length list.loose ≤ vec_capacity self.now.jobs.loose }
         ensures list { self.new.list ≡ list }
-        ensures infos { self.new.infos.items ≡ infos_outside joined.now self.old.infos.items ++ info ∷ [] }
-        ensures jobs { (self.new.jobs.compaction ≡ None) × (self.new.jobs.flush ≡ self.old.jobs.flush)
-            × (self.new.jobs.begun ≡ self.old.jobs.begun) × (self.new.jobs.next_file ≡ self.old.jobs.next_file) }
+        ensures infos { self.new.infos.items
+            ≡ infos_outside joined.now self.old.infos.items ++ info ∷ [] }
+        ensures jobs { (self.new.jobs.compaction ≡ None)
+            × (self.new.jobs.flush ≡ self.old.jobs.flush)
+            × (self.new.jobs.begun ≡ self.old.jobs.begun)
+            × (self.new.jobs.next_file ≡ self.old.jobs.next_file) }
         ensures loose { self.new.jobs.loose.items
             ≡ take (length list.loose - 2 * one_if self.old.jobs.flush) list.loose }
         ensures room { (vec_capacity self.old.jobs.loose ≤ vec_capacity self.new.jobs.loose)
             × (vec_capacity self.old.infos ≤ vec_capacity self.new.infos) }
-        ensures same { (self.new.live ≡ self.old.live) × (self.new.segment ≡ self.old.segment) × (self.new.pins ≡ self.old.pins)
+        ensures same { (self.new.live ≡ self.old.live) × (self.new.segment ≡ self.old.segment)
+            × (self.new.pins ≡ self.old.pins)
             × (self.new.read_only ≡ self.old.read_only) × (self.new.unsure ≡ self.old.unsure) }
     {
         self.jobs.end_compact(list.loose.as_slice());

@@ -56,26 +56,35 @@ impl<D: Device> Core<D> {
         ensures kept { IfOk result (λ core. KeepsDisk D.Device.own disk core.disk) }
         ensures kept_refused { IfErr result (λ e. KeepsDisk D.Device.own disk e.1) }
         // Refused for another cause than a fault it leaves all bytes as they were, be they a store's or not.
-        ensures left { IfErr result (λ e. IsTrue (D.tells disk) → e.0 ≢ Fault → LeavesAlone D.Device.own disk e.1) }
+        ensures left { IfErr result (λ e. IsTrue (D.tells disk) → e.0 ≢ Fault
+            → LeavesAlone D.Device.own disk e.1) }
         // The list that counts then is the one that counted, or the next one without loose files, or a new store's.
-        ensures list { IfOk result (λ core. IsTrue (D.tells disk) → (list : Option ListBody) → ImageHoldsList (D.held disk) list
+        ensures list { IfOk result (λ core. IsTrue (D.tells disk) → (list : Option ListBody)
+            → ImageHoldsList (D.held disk) list
             → core.state.list ≡ opened_list list) }
-        ensures counted { IfOk result (λ core. IsTrue (D.tells disk) → (list : Option ListBody) × ImageHoldsList (D.held disk) list) }
-        ensures ready { IfOk result (λ core. IsTrue (D.tells disk) → IsReady (D.held core.disk) (D.may_leave core.disk) (Some core.state.list)) }
+        ensures counted { IfOk result (λ core. IsTrue (D.tells disk)
+            → (list : Option ListBody) × ImageHoldsList (D.held disk) list) }
+        ensures ready { IfOk result (λ core. IsTrue (D.tells disk)
+            → IsReady (D.held core.disk) (D.may_leave core.disk) (Some core.state.list)) }
         // What jobs left in files that the list doesn't name, as they failed or were killed, is gone.
-        ensures freed { IfOk result (λ core. IsTrue (D.tells disk) → (list : ListBody) → ImageHoldsList (D.held disk) (Some list)
+        ensures freed { IfOk result (λ core. IsTrue (D.tells disk) → (list : ListBody)
+            → ImageHoldsList (D.held disk) (Some list)
             → AreFreed (D.held disk) list.next_file (D.may_leave core.disk)) }
         // Its opening ends now.
         ensures ends { IfOk result (λ core. core.since.moment ≡ D.moment core.disk) }
         // Bytes are refused where they break, and only there: a sound store is not refused.
-        ensures not_store { IfErr result (λ e. IsTrue (D.tells disk) → (file at : ℕ) → e.0 ≡ NotStore file at → StoreBreaks (D.held disk) file at) }
-        ensures unbroken { IfOk result (λ core. IsTrue (D.tells disk) → (file at : ℕ) → StoreBreaks (D.held disk) file at → ⊥) }
-        ensures sound { IfErr result (λ e. IsTrue (D.tells disk) → IsSoundImage (D.held disk) → (file at : ℕ) → e.0 ≢ NotStore file at) }
+        ensures not_store { IfErr result (λ e. IsTrue (D.tells disk) → (file at : ℕ)
+            → e.0 ≡ NotStore file at → StoreBreaks (D.held disk) file at) }
+        ensures unbroken { IfOk result (λ core. IsTrue (D.tells disk) → (file at : ℕ)
+            → StoreBreaks (D.held disk) file at → ⊥) }
+        ensures sound { IfErr result (λ e. IsTrue (D.tells disk) → IsSoundImage (D.held disk)
+            → (file at : ℕ) → e.0 ≢ NotStore file at) }
         // All frames are empty. They are made first.
         ensures frames { IfOk result (λ core. core.cache ≡ replicate 256 None) }
         // A fault is answered just where a call of the disk failed, and then it was the last one.
         ensures calls { IfOk result (λ core. Counts D.Device.own 0 (Unit {0}) ⊥ disk core.disk) }
-        ensures calls_refused { IfErr result (λ e. Counts D.Device.own 0 (e.0 ≢ Fault) (e.0 ≡ Fault) disk e.1) }
+        ensures calls_refused { IfErr result
+            (λ e. Counts D.Device.own 0 (e.0 ≢ Fault) (e.0 ≡ Fault) disk e.1) }
     {
         let Ok(cache) = PageCache::new(alloc) else {
             return Err((OpenError::Memory, disk));
@@ -123,22 +132,35 @@ fn read_store<D: Device>(
     moment: u64,
 ) -> Result<CoreState, OpenError>
     requires rules { MeetsRules list }
-    requires ready { IsTrue (D.tells disk.old) → IsReady (D.held disk.old) (D.may_leave disk.old) (Some list) }
-    ensures blocks { IfOk result (λ state. BlocksRead (IsTrue (D.tells disk.old)) (D.held disk.old) list.blocks state.infos.items) }
-    ensures state { IfOk result (λ state. (batches : List (List Span)) × IsOpenedState list batches moment state
-        × LogRead (IsTrue (D.tells disk.old)) (D.held disk.old) list.segments (first_number list) batches (tail_of state.segment)) }
-    ensures still { IsTrue (D.tells disk.old) → OnOk result ((x : SegmentRef) → Contains list.segments x
+    requires ready { IsTrue (D.tells disk.old)
+        → IsReady (D.held disk.old) (D.may_leave disk.old) (Some list) }
+    ensures blocks { IfOk result (λ state.
+        BlocksRead (IsTrue (D.tells disk.old)) (D.held disk.old) list.blocks state.infos.items) }
+    ensures state { IfOk result
+        (λ state. (batches : List (List Span)) × IsOpenedState list batches moment state
+        × LogRead (IsTrue (D.tells disk.old)) (D.held disk.old) list.segments
+        (first_number list) batches (tail_of state.segment)) }
+    ensures still { IsTrue (D.tells disk.old)
+        → OnOk result ((x : SegmentRef) → Contains list.segments x
         → bytes_of (D.held disk.new) x.file ≡ bytes_of (D.held disk.old) x.file) }
-    ensures blocks_still { IsTrue (D.tells disk.old) → OnOk result ((x : BlockRef) → Contains list.blocks x
+    ensures blocks_still { IsTrue (D.tells disk.old)
+        → OnOk result ((x : BlockRef) → Contains list.blocks x
         → bytes_of (D.held disk.new) x.file ≡ bytes_of (D.held disk.old) x.file) }
-    ensures freed { IsTrue (D.tells disk.old) → OnOk result (AreFreed (D.held disk.old) list.next_file (D.may_leave disk.new)) }
-    ensures settled { IsTrue (D.tells disk.old) → IfOk result (λ state. (blocks : List Block) → list.blocks ≡ map ref_of blocks
+    ensures freed { IsTrue (D.tells disk.old)
+        → OnOk result (AreFreed (D.held disk.old) list.next_file (D.may_leave disk.new)) }
+    ensures settled { IsTrue (D.tells disk.old)
+        → IfOk result (λ state. (blocks : List Block) → list.blocks ≡ map ref_of blocks
         → BlocksStand (D.held disk.old) blocks → (h : History) → ImageStandsFor (D.held disk.old) h
-        → IsSettled (D.held disk.new) (D.may_leave disk.new) state.list blocks (tail_of state.segment) h) }
+        → IsSettled (D.held disk.new) (D.may_leave disk.new) state.list blocks
+        (tail_of state.segment) h) }
     ensures kept { KeepsDisk D.Device.own disk.old disk.new }
-    ensures ready { IsTrue (D.tells disk.old) → IfOk result (λ state. IsReady (D.held disk.new) (D.may_leave disk.new) (Some state.list)) }
-    ensures left { IfErr result (λ error. error ≢ Fault → Untouched D.tells D.held D.may_leave D.moment D.left_since disk.old disk.new) }
-    ensures not_store { IsTrue (D.tells disk.old) → (file at : ℕ) → result ≡ Err (NotStore file at) → ListBreaks (D.held disk.old) list file at }
+    ensures ready { IsTrue (D.tells disk.old)
+        → IfOk result (λ state.
+        IsReady (D.held disk.new) (D.may_leave disk.new) (Some state.list)) }
+    ensures left { IfErr result (λ error. error ≢ Fault
+        → Untouched D.tells D.held D.may_leave D.moment D.left_since disk.old disk.new) }
+    ensures not_store { IsTrue (D.tells disk.old) → (file at : ℕ) → result ≡ Err (NotStore file at)
+        → ListBreaks (D.held disk.old) list file at }
     ensures counted { CountsFault D.Device.own 0 Fault disk.old disk.new result }
 {
     let (infos, segment, live) = match read_listed(alloc, disk, &list, moment) {
@@ -172,17 +194,23 @@ fn read_listed<D: Device>(
     moment: u64,
 ) -> Result<(Vec<SharedInfo>, Segment, Live), OpenError>
     requires { MeetsRules list.now }
-    ensures blocks { IfOk result (λ read. BlocksRead (IsTrue (D.tells disk.old)) (D.held disk.old) list.now.blocks read.0.items) }
+    ensures blocks { IfOk result (λ read.
+        BlocksRead (IsTrue (D.tells disk.old)) (D.held disk.old) list.now.blocks read.0.items) }
     ensures log { IfOk result (λ read. (batches : List (List Span))
-        × (read.2.live ≡ arrived moment (record_rows list.now.floor (drop (list.now.floor - first_number list.now) batches)))
-        × LogRead (IsTrue (D.tells disk.old)) (D.held disk.old) list.now.segments (first_number list.now) batches (tail_of read.1)) }
+        × (read.2.live ≡ arrived moment
+        (record_rows list.now.floor (drop (list.now.floor - first_number list.now) batches)))
+        × LogRead (IsTrue (D.tells disk.old)) (D.held disk.old) list.now.segments
+        (first_number list.now) batches (tail_of read.1)) }
     ensures others { IfOk result (λ read. (read.2.head ≡ []) × (read.2.flushing ≡ [])) }
     ensures few { IfOk result (λ read. read.1.first + read.1.count ≤ 4294967295) }
-    ensures blocks_lie { IsTrue (D.tells disk.old) → OnOk result ((x : BlockRef) → Contains list.now.blocks x
+    ensures blocks_lie { IsTrue (D.tells disk.old)
+        → OnOk result ((x : BlockRef) → Contains list.now.blocks x
         → OnlyBytes x.file (bytes_of (D.held disk.old) x.file) (D.may_leave disk.new)) }
-    ensures segments_lie { IsTrue (D.tells disk.old) → OnOk result ((x : SegmentRef) → Contains list.now.segments x
+    ensures segments_lie { IsTrue (D.tells disk.old)
+        → OnOk result ((x : SegmentRef) → Contains list.now.segments x
         → OnlyBytes x.file (bytes_of (D.held disk.old) x.file) (D.may_leave disk.new)) }
-    ensures not_store { IsTrue (D.tells disk.old) → (file at : ℕ) → result ≡ Err (NotStore file at) → ListBreaks (D.held disk.old) list.now file at }
+    ensures not_store { IsTrue (D.tells disk.old) → (file at : ℕ) → result ≡ Err (NotStore file at)
+        → ListBreaks (D.held disk.old) list.now file at }
     ensures untouched { Untouched D.tells D.held D.may_leave D.moment D.left_since disk.old disk.new }
     ensures counted { CountsFault D.Device.own 0 Fault disk.old disk.new result }
 {
@@ -205,11 +233,14 @@ fn read_rows<D: Device>(
 ) -> Result<(Segment, Live), OpenError>
     requires { MeetsRules list.now }
     ensures read { IfOk result (λ read. (batches : List (List Span))
-        × (read.1.live ≡ arrived moment (record_rows list.now.floor (drop (list.now.floor - first_number list.now) batches)))
-        × LogRead (IsTrue (D.tells disk.old)) (D.held disk.old) list.now.segments (first_number list.now) batches (tail_of read.0)) }
+        × (read.1.live ≡ arrived moment
+        (record_rows list.now.floor (drop (list.now.floor - first_number list.now) batches)))
+        × LogRead (IsTrue (D.tells disk.old)) (D.held disk.old) list.now.segments
+        (first_number list.now) batches (tail_of read.0)) }
     ensures others { IfOk result (λ read. (read.1.head ≡ []) × (read.1.flushing ≡ [])) }
     ensures few { IfOk result (λ read. read.0.first + read.0.count ≤ 4294967295) }
-    ensures lies { IsTrue (D.tells disk.old) → OnOk result ((x : SegmentRef) → Contains list.now.segments x
+    ensures lies { IsTrue (D.tells disk.old)
+        → OnOk result ((x : SegmentRef) → Contains list.now.segments x
         → OnlyBytes x.file (bytes_of (D.held disk.old) x.file) (D.may_leave disk.new)) }
     ensures not_store { IsTrue (D.tells disk.old) → (file at : ℕ) → result ≡ Err (NotStore file at)
         → LogBreaks (D.held disk.old) list.now.segments (first_number list.now) file at }

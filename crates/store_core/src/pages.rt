@@ -36,13 +36,17 @@ impl<D: Device> Core<D> {
     ) -> Result<(), Failed>
         requires open { (m : Machine) × CoreShows D.Device.own self.now m
             × (is_among block (block_files (pinned_blocks pin.now.number m.state.pins)) ≡ true) }
-        ensures did { Did D.Device.own self.old (ReadPage pin.now.number block page) (page_reply buf.new result) self.new }
+        ensures did { Did D.Device.own self.old (ReadPage pin.now.number block page)
+            (page_reply buf.new result) self.new }
         ensures bytes { IsTrue (D.tells self.old.disk) →
             OnOk result (buf.new ≡ page_of (bytes_of (D.held self.old.disk) block) page) }
         ensures left { IsLeft D.Device.own self.old self.new }
-        ensures through { page * 4096 < 2 ^ 64 → IsReadThrough block page buf.new result self.old.cache self.new.cache
-            (D.reads self.old.disk) (D.reads self.new.disk) (D.calls self.old.disk) (D.calls self.new.disk) }
-        ensures far { 2 ^ 64 ≤ page * 4096 → (self.new.cache ≡ self.old.cache) × (self.new.disk ≡ self.old.disk) }
+        ensures through { page * 4096 < 2 ^ 64
+            → IsReadThrough block page buf.new result self.old.cache self.new.cache
+            (D.reads self.old.disk) (D.reads self.new.disk) (D.calls self.old.disk)
+            (D.calls self.new.disk) }
+        ensures far { 2 ^ 64 ≤ page * 4096
+            → (self.new.cache ≡ self.old.cache) × (self.new.disk ≡ self.old.disk) }
     {
         let Some(at) = page.checked_mul(4096) else {
             read_past_end(&self.disk, block, page, buf);

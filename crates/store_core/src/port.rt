@@ -83,9 +83,12 @@ impl<D: Device> FlushPort for Core<D> {
             OnOk result (buf.new ≡ page_of (bytes_of (D.held self.old.disk) block) page) }
         ensures left { LeavesKept (port_of D.Device.own) self.old self.new }
         // The page goes through the page cache, as that of `Core::read_page`.
-        ensures through { page * 4096 < 2 ^ 64 → IsReadThrough block page buf.new result self.old.cache self.new.cache
-            (D.reads self.old.disk) (D.reads self.new.disk) (D.calls self.old.disk) (D.calls self.new.disk) }
-        ensures far { 2 ^ 64 ≤ page * 4096 → (self.new.cache ≡ self.old.cache) × (self.new.disk ≡ self.old.disk) }
+        ensures through { page * 4096 < 2 ^ 64
+            → IsReadThrough block page buf.new result self.old.cache self.new.cache
+            (D.reads self.old.disk) (D.reads self.new.disk) (D.calls self.old.disk)
+            (D.calls self.new.disk) }
+        ensures far { 2 ^ 64 ≤ page * 4096
+            → (self.new.cache ≡ self.old.cache) × (self.new.disk ≡ self.old.disk) }
     {
         self.read_page(pin, block, page, buf)
     }
@@ -120,12 +123,14 @@ pub fn an_event_is_a_call<D: Device>(old: &Core<D>, new: &Core<D>)
 /// A core whose memory shows a machine, as that of each one does which was opened, is a port in which nothing of a caller's is open:
 /// what it gives out from then on is.
 pub fn a_shown_core_is_a_port<D: Device>(core: &Core<D>)
-    ensures { (m : Machine) → CoreShows D.Device.own core.now m → (port_of D.Device.own).holds core.now [] }
+    ensures { (m : Machine) → CoreShows D.Device.own core.now m
+        → (port_of D.Device.own).holds core.now [] }
 {}
 
 /// Over a disk that tells its bytes a core that stands for a machine keeps that machine's blocks, with their rows, and its rows
 /// outside of them.
 pub fn a_core_keeps_its_blocks<D: Device>(core: &Core<D>)
-    ensures { IsTrue (D.tells core.now.disk) → (m : Machine) → CoreStandsFor D.Device.own core.now m →
+    ensures { IsTrue (D.tells core.now.disk) → (m : Machine)
+        → CoreStandsFor D.Device.own core.now m →
         (port_of D.Device.own).keeps core.now (kept_in core.now.state m.state) }
 {}

@@ -31,11 +31,14 @@ pub fn read_log<D: Device>(
     list: &ListBody,
 ) -> Result<(Segment, Vec<NumberedBatch>), OpenError>
     requires { MeetsRules list.now }
-    ensures read { IfOk result (λ log. (batches : List (List Span)) × (log.1.items ≡ entries (first_number list.now) batches)
-        × LogRead (IsTrue (D.tells disk.old)) (D.held disk.old) list.now.segments (first_number list.now) batches (tail_of log.0)) }
+    ensures read { IfOk result (λ log. (batches : List (List Span))
+        × (log.1.items ≡ entries (first_number list.now) batches)
+        × LogRead (IsTrue (D.tells disk.old)) (D.held disk.old) list.now.segments
+        (first_number list.now) batches (tail_of log.0)) }
     ensures few { IfOk result (λ log. log.0.first + log.0.count ≤ 4294967295) }
     // Each segment then has one image.
-    ensures lies { IsTrue (D.tells disk.old) → OnOk result ((x : SegmentRef) → Contains list.now.segments x
+    ensures lies { IsTrue (D.tells disk.old)
+        → OnOk result ((x : SegmentRef) → Contains list.now.segments x
         → OnlyBytes x.file (bytes_of (D.held disk.old) x.file) (D.may_leave disk.new)) }
     ensures not_store { IsTrue (D.tells disk.old) → (file at : ℕ) → result ≡ Err (NotStore file at)
         → LogBreaks (D.held disk.old) list.now.segments (first_number list.now) file at }
@@ -66,11 +69,15 @@ fn add_segment<D: Device>(
     batches: &mut Vec<NumberedBatch>,
 ) -> Result<Segment, OpenError>
     requires { segment.now.first ≤ 4294967295 }
-    ensures read { IfOk result (λ found. (mine : List (List Span)) × (batches.new.items ≡ batches.old.items ++ entries segment.now.first mine)
-        × SegmentRead (IsTrue (D.tells disk.old)) (bytes_of (D.held disk.old) segment.now.file) segment.now mine found) }
+    ensures read { IfOk result (λ found. (mine : List (List Span))
+        × (batches.new.items ≡ batches.old.items ++ entries segment.now.first mine)
+        × SegmentRead (IsTrue (D.tells disk.old))
+        (bytes_of (D.held disk.old) segment.now.file) segment.now mine found) }
     ensures lies { IsTrue (D.tells disk.old) → OnOk result
-        (OnlyBytes segment.now.file (bytes_of (D.held disk.old) segment.now.file) (D.may_leave disk.new)) }
-    ensures malformed { IsTrue (D.tells disk.old) → (file at : ℕ) → result ≡ Err (NotStore file at) → (file ≡ segment.now.file)
+        (OnlyBytes segment.now.file (bytes_of (D.held disk.old) segment.now.file)
+        (D.may_leave disk.new)) }
+    ensures malformed { IsTrue (D.tells disk.old) → (file at : ℕ) → result ≡ Err (NotStore file at)
+        → (file ≡ segment.now.file)
         × (segment_at segment.now.first (bytes_of (D.held disk.old) segment.now.file) ≡ Err at) }
     ensures untouched { Untouched D.tells D.held D.may_leave D.moment D.left_since disk.old disk.new }
     ensures counted { CountsFault D.Device.own 0 Fault disk.old disk.new result }

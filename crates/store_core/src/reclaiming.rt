@@ -72,7 +72,8 @@ impl CoreState {
 
     // The list after this one that names these loose files and those of open jobs, and its text.
     fn list_without(&self, alloc: Global, kept: &[u32]) -> Result<(ListBody, PreparedList), Memory>
-        ensures list { IfOk result (λ next. IsEdited self.now.list (kept_edit self.now.jobs kept.now) next.0) }
+        ensures list { IfOk result
+            (λ next. IsEdited self.now.list (kept_edit self.now.jobs kept.now) next.0) }
         ensures text { IfOk result (λ next. MeetsRules next.0 → IsListText next.1 next.0) }
         ensures short { IfOk result (λ next. 1 + length next.1.text < 2 ^ 63) }
     {
@@ -95,7 +96,8 @@ impl CoreState {
 // Those of the files that are among the rising ones.
 fn files_inside(alloc: Global, files: &[u32], rising: &[u32]) -> Result<Vec<u32>, Memory>
     requires { IsNonDecreasing rising.now }
-    ensures { IfOk result (λ kept. kept.items ≡ filter (λ file. is_among file rising.now) files.now) }
+    ensures { IfOk result
+        (λ kept. kept.items ≡ filter (λ file. is_among file rising.now) files.now) }
 {
     let mut kept = Vec::new(alloc);
     kept.extend_from_slice(files)?;
@@ -106,7 +108,8 @@ fn files_inside(alloc: Global, files: &[u32], rising: &[u32]) -> Result<Vec<u32>
 // Those of the files that aren't among the rising ones.
 fn files_outside(alloc: Global, files: &[u32], rising: &[u32]) -> Result<Vec<u32>, Memory>
     requires { IsNonDecreasing rising.now }
-    ensures { IfOk result (λ kept. kept.items ≡ filter (λ file. not (is_among file rising.now)) files.now) }
+    ensures { IfOk result
+        (λ kept. kept.items ≡ filter (λ file. not (is_among file rising.now)) files.now) }
 {
     let mut kept = Vec::new(alloc);
     kept.extend_from_slice(files)?;

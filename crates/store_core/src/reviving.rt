@@ -15,7 +15,8 @@ pub(crate) fn revive(
     floor: u64,
     moment: u64,
 ) -> Result<(), Memory>
-    ensures added { OnOk result (live.new.live ≡ live.old.live ++ arrived moment (rows_from floor batches.items)) }
+    ensures added { OnOk result
+        (live.new.live ≡ live.old.live ++ arrived moment (rows_from floor batches.items)) }
     ensures same { (live.new.head ≡ live.old.head) × (live.new.flushing ≡ live.old.flushing) }
 {
     for entry in batches {

@@ -38,7 +38,8 @@ impl CommitRoom {
     pub(crate) fn edited(self, list: &ListBody, edit: ListEdit<'_, '_>) -> (ListBody, PreparedList)
         requires fits { FitsEdit self list.now (length edit.loose.now)
             (length (flush_part edit.flush) + length (one_of edit.compaction)) }
-        requires rules { (next : ListBody) → IsEdited list.now (edit_of edit) next → MeetsRules next }
+        requires rules { (next : ListBody) → IsEdited list.now (edit_of edit) next
+            → MeetsRules next }
         ensures list { IsEdited list.now (edit_of edit.entry) result.0 }
         ensures text { IsListText result.1 result.0 }
     {

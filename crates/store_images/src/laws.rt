@@ -37,14 +37,16 @@ pub fn steps_that_keep()
 
 /// An image has one list at most.
 pub fn one_stored_list()
-    ensures { (image : Image) (list other : Option ListBody) → ImageHoldsList image list → ImageHoldsList image other → list ≡ other }
+    ensures { (image : Image) (list other : Option ListBody) → ImageHoldsList image list
+        → ImageHoldsList image other → list ≡ other }
 {}
 
 /// A store has the first occurrences of a history. Of its rows some wait outside of blocks, and others become a
 /// further block that has, with the listed blocks and what still waits, the same first occurrences. Then the store has
 /// them with that block, and with the log from any number on that no row which waits is below.
 pub fn a_committed_flush_agrees()
-    ensures { (blocks : List Block) (block : Block) (first gone : ℕ) (batches : List (List Span)) (waiting : List Row)
+    ensures { (blocks : List Block) (block : Block) (first gone : ℕ) (batches : List (List Span))
+        (waiting : List Row)
         (h : History) → AgreesOn (stored_rows blocks first batches) h
         → AgreesOn (block_rows (blocks ++ block ∷ []) ++ waiting) h
         → Within (block.rows ++ waiting) (stored_rows blocks first batches)
@@ -54,30 +56,37 @@ pub fn a_committed_flush_agrees()
 
 /// An image whose list is the next one of a flush's commit stands for the history.
 pub fn a_committed_flush_stands()
-    ensures { (image : Image) (body new : ListBody) (blocks : List Block) (block : Block) (batches : List (List Span))
-        (waiting : List Row) (h : History) → CommitsFlush image body new blocks block batches waiting h → ImageStandsFor image h }
+    ensures { (image : Image) (body new : ListBody) (blocks : List Block) (block : Block)
+        (batches : List (List Span))
+        (waiting : List Row) (h : History)
+        → CommitsFlush image body new blocks block batches waiting h → ImageStandsFor image h }
 {}
 
 /// A store has the first occurrences of a history. Of its blocks those in some files become one block, which comes
 /// last and holds the first occurrences of their rows. Then the store has the history's first occurrences still, and
 /// where the records below a number brought none of them, they bring none.
 pub fn a_committed_compaction_agrees()
-    ensures firsts { (files : List ℕ) (blocks : List Block) (block : Block) (first : ℕ) (batches : List (List Span))
+    ensures firsts { (files : List ℕ) (blocks : List Block) (block : Block) (first : ℕ)
+        (batches : List (List Span))
         (h : History) → IsFirstOf (block_rows (in_files files blocks)) block.rows
         → AgreesOn (stored_rows blocks first batches) h
         → AgreesOn (stored_rows (with_joined files blocks block) first batches) h }
     ensures floored { (files : List ℕ) (blocks : List Block) (block : Block) (first gone : ℕ)
-        (batches : List (List Span)) (h : History) → IsFirstOf (block_rows (in_files files blocks)) block.rows
+        (batches : List (List Span)) (h : History)
+        → IsFirstOf (block_rows (in_files files blocks)) block.rows
         → AgreesOn (stored_rows blocks first batches) h
-        → SameFirsts (stored_rows blocks first batches) (stored_rows blocks (first + gone) (drop gone batches))
+        → SameFirsts (stored_rows blocks first batches)
+        (stored_rows blocks (first + gone) (drop gone batches))
         → SameFirsts (stored_rows (with_joined files blocks block) first batches)
         (stored_rows (with_joined files blocks block) (first + gone) (drop gone batches)) }
 {}
 
 /// An image whose list is the next one of a compaction's commit stands for the history.
 pub fn a_committed_compaction_stands()
-    ensures { (image : Image) (body new : ListBody) (files : List ℕ) (blocks : List Block) (block : Block)
-        (batches : List (List Span)) (h : History) → CommitsCompaction image body new files blocks block batches h
+    ensures { (image : Image) (body new : ListBody) (files : List ℕ) (blocks : List Block)
+        (block : Block)
+        (batches : List (List Span)) (h : History)
+        → CommitsCompaction image body new files blocks block batches h
         → ImageStandsFor image h }
 {}
 

@@ -31,7 +31,8 @@ pub fn entries_follow()
 
 /// What the history was at a length stays, whatever entries are added.
 pub fn the_past_stays()
-    ensures { (h : History) (more : List Entry) (n : ℕ) → n ≤ count_of h → up_to n (grown h more) ≡ up_to n h }
+    ensures { (h : History) (more : List Entry) (n : ℕ) → n ≤ count_of h
+        → up_to n (grown h more) ≡ up_to n h }
 {}
 
 /// A push adds its rows after those of the history.
@@ -42,7 +43,8 @@ pub fn history_grows()
 
 /// Where a place names one row, the order of rows makes no first row another one.
 pub fn one_order()
-    ensures { (xs ys : List Row) → OnePlace xs → SameRows xs ys → (k : Key) → first_at k xs ≡ first_at k ys }
+    ensures { (xs ys : List Row) → OnePlace xs → SameRows xs ys → (k : Key)
+        → first_at k xs ≡ first_at k ys }
 {}
 
 /// Each step keeps the first occurrences of the history.
@@ -67,45 +69,53 @@ pub fn step_keeps_sound()
 /// An event empties only files that are out of use: no pin names them, the list has them as no segment and no block,
 /// and no open job was given them.
 pub fn used_files_are_not_emptied()
-    ensures { (u : State) (e : Event) (file : ℕ) → StateIsSound u → is_among file (emptied e u) ≡ true → IsOutOfUse file u }
+    ensures { (u : State) (e : Event) (file : ℕ) → StateIsSound u
+        → is_among file (emptied e u) ≡ true → IsOutOfUse file u }
 {}
 
 /// A file number is given out once: the next one never falls, and what a step gives out lies between the old and the
 /// new one.
 pub fn files_are_given_out_once()
-    ensures { (before faults : ℕ) (m m' : Machine) (e : Event) (r : Reply) → Step before faults m e r m' →
+    ensures { (before faults : ℕ) (m m' : Machine) (e : Event) (r : Reply)
+        → Step before faults m e r m' →
         GivesNewFiles m.state r m'.state }
 {}
 
 /// What a reply opens shares the number of its pin and that of its job with nothing that was open before.
 pub fn what_opens_is_new()
-    ensures { (before faults : ℕ) (m m' : Machine) (e : Event) (r : Reply) (new old : Hold) → StateIsSound m.state →
+    ensures { (before faults : ℕ) (m m' : Machine) (e : Event) (r : Reply) (new old : Hold)
+        → StateIsSound m.state →
         Step before faults m e r m' → Contains (opened r) new → OpenIn m old → AreApart new old }
 {}
 
 /// What is open stays open and what it was, but for what the event ends: a look keeps its blocks, and with its rows
 /// they have the first occurrences of the history as it was; a job keeps its file, rows and pin.
 pub fn step_keeps_what_is_open()
-    ensures { (before faults : ℕ) (m m' : Machine) (e : Event) (r : Reply) (hold : Hold) → OpenIn m hold →
+    ensures { (before faults : ℕ) (m m' : Machine) (e : Event) (r : Reply) (hold : Hold)
+        → OpenIn m hold →
         ends e r hold ≡ false → Step before faults m e r m' → OpenIn m' hold }
 {}
 
 /// An event that is to add an entry, and answers a number, adds it under the history's length, and nothing else
 /// changes the history. A look is of the history's length.
 pub fn step_tells_the_history()
-    ensures { (before faults : ℕ) (m m' : Machine) (e : Event) (r : Reply) → Step before faults m e r m' →
+    ensures { (before faults : ℕ) (m m' : Machine) (e : Event) (r : Reply)
+        → Step before faults m e r m' →
         (m'.history ≡ history_after e r m.history) × TellsLength e r m.history }
 {}
 
 /// What a reply gives is open after it.
 pub fn step_opens_what_it_gives()
-    ensures { (before faults : ℕ) (m m' : Machine) (e : Event) (r : Reply) (hold : Hold) → Agrees m →
-        StateIsSound m.state → Step before faults m e r m' → Contains (opened r) hold → OpenIn m' hold }
+    ensures { (before faults : ℕ) (m m' : Machine) (e : Event) (r : Reply) (hold : Hold)
+        → Agrees m →
+        StateIsSound m.state → Step before faults m e r m' → Contains (opened r) hold
+        → OpenIn m' hold }
 {}
 
 /// Each step keeps blocks counted, where a commit counts the rows of its block.
 pub fn step_keeps_counts()
-    ensures { (before faults : ℕ) (m m' : Machine) (e : Event) (r : Reply) → AreCounted m.state.blocks →
+    ensures { (before faults : ℕ) (m m' : Machine) (e : Event) (r : Reply)
+        → AreCounted m.state.blocks →
         SizeFits m.state e → Step before faults m e r m' → AreCounted m'.state.blocks }
 {}
 

@@ -20,7 +20,8 @@ pub fn an_open_store_keeps_its_history<D: Device>(core: &Core<D>)
     ensures keeps { (m : Machine) → CoreStandsFor D.Device.own core.now m
         → Keeps D.Device.own core.now.disk m.history (unsure_of core.now.state) }
     // It has done so since it was opened.
-    ensures begins { (m : Machine) → CoreStandsFor D.Device.own core.now m → KeepsThrough D.Device.own
+    ensures begins { (m : Machine) → CoreStandsFor D.Device.own core.now m
+        → KeepsThrough D.Device.own
         core.now.disk (count_of m.history) [] core.now.disk m.history (unsure_of core.now.state) }
 {}
 
@@ -34,18 +35,25 @@ pub fn a_reopened_store_goes_on<D: Device>(disk: &D, core: &Core<D>)
 /// Whenever a crash comes, what is left stands for the history at some length, or for it at the length at which a call for an
 /// entry answered a fault, and that entry: over events, over an opening that is refused, and over one that isn't.
 pub fn a_history_goes_on<D: Device>(old: &Core<D>, new: &Core<D>, disk: &D, later: &D)
-    ensures event { (e : Event) (r : Reply) (m : Machine) (start : D) (least : ℕ) (pending : List Pending)
-        → (did : Did D.Device.own old.now e r new.now) → (stands : CoreStandsFor D.Device.own old.now m)
-        → KeepsThrough D.Device.own start least pending old.now.disk m.history (unsure_of old.now.state)
+    ensures event { (e : Event) (r : Reply) (m : Machine) (start : D) (least : ℕ)
+        (pending : List Pending)
+        → (did : Did D.Device.own old.now e r new.now)
+        → (stands : CoreStandsFor D.Device.own old.now m)
+        → KeepsThrough D.Device.own start least pending old.now.disk m.history
+        (unsure_of old.now.state)
         → KeepsThrough D.Device.own start least pending new.now.disk
         (did.stepped m stands).machine.history (unsure_of new.now.state) }
-    ensures closed { (h : History) (unsure : Option Entry) (start : D) (least : ℕ) (pending : List Pending)
-        → KeepsThrough D.Device.own start least pending disk.now h unsure → D.tells later.now ≡ D.tells disk.now
+    ensures closed { (h : History) (unsure : Option Entry) (start : D) (least : ℕ)
+        (pending : List Pending)
+        → KeepsThrough D.Device.own start least pending disk.now h unsure
+        → D.tells later.now ≡ D.tells disk.now
         → KeepsDisk D.Device.own disk.now later.now
         → KeepsThrough D.Device.own start least pending later.now h unsure }
-    ensures opened { (h : History) (unsure : Option Entry) (start : D) (least moment : ℕ) (pending : List Pending)
+    ensures opened { (h : History) (unsure : Option Entry) (start : D) (least moment : ℕ)
+        (pending : List Pending)
         → KeepsThrough D.Device.own start least pending disk.now h unsure
         → D.tells new.now.disk ≡ D.tells disk.now → KeepsDisk D.Device.own disk.now new.now.disk
         → (on : GoesOn D.Device.own disk.now moment new.now h unsure)
-        → KeepsThrough D.Device.own start least (pending ++ pending_now h unsure) new.now.disk on.machine.history None }
+        → KeepsThrough D.Device.own start least
+        (pending ++ pending_now h unsure) new.now.disk on.machine.history None }
 {}

@@ -15,7 +15,8 @@ ghost use Rattle.store_state.specs.Shown.{IsChoiceOf, AreFew};
 
 /// A step tells its caller of the history what a call of a port is to tell, where nobody else added an entry.
 pub fn a_step_tells_what_is_learnt()
-    ensures { (before faults : ℕ) (m m' : Machine) (e : Event) (r : Reply) → Step before faults m e r m' →
+    ensures { (before faults : ℕ) (m m' : Machine) (e : Event) (r : Reply)
+        → Step before faults m e r m' →
         Learns e r m.history m'.history }
 {}
 
@@ -28,7 +29,8 @@ pub fn the_floor_is_the_least_that_waits()
 
 /// What a compaction joins are two to four blocks of one level below 63, with at most 1,048,576 rows together.
 pub fn a_choice_is_few()
-    ensures { (listed : List InfoParts) (level : ℕ) (pinned : List InfoParts) → IsChoiceOf listed level pinned →
+    ensures { (listed : List InfoParts) (level : ℕ) (pinned : List InfoParts)
+        → IsChoiceOf listed level pinned →
         1 ≤ length pinned → AreFew level pinned }
 {}
 

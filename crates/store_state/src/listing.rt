@@ -68,10 +68,13 @@ pub struct ListRoom {
 impl ListRoom {
     /// Room for each list that two edits may make after this one, while so many files are loose.
     pub fn after(alloc: Global, list: &ListBody, loose: usize) -> Result<ListRoom, Memory>
-        ensures blocks { IfOk result (λ room. length list.now.blocks + 2 ≤ vec_capacity room.blocks) }
-        ensures segments { IfOk result (λ room. length list.now.segments + 2 ≤ vec_capacity room.segments) }
+        ensures blocks { IfOk result
+            (λ room. length list.now.blocks + 2 ≤ vec_capacity room.blocks) }
+        ensures segments { IfOk result
+            (λ room. length list.now.segments + 2 ≤ vec_capacity room.segments) }
         ensures loose { IfOk result (λ room.
-            loose + length list.now.segments + length list.now.blocks + 4 ≤ vec_capacity room.loose) }
+            loose + length list.now.segments + length list.now.blocks + 4
+            ≤ vec_capacity room.loose) }
         ensures few_blocks { IfOk result (λ room. length list.now.blocks ≤ 4294967296) }
         ensures few_segments { IfOk result (λ room. length list.now.segments ≤ 4294967296) }
         ensures few_loose { IfOk result (λ room. loose ≤ 4294967296) }
@@ -96,7 +99,8 @@ pub fn edited(list: &ListBody, edit: ListEdit<'_, '_>, room: ListRoom) -> ListBo
     requires blocks { length list.now.blocks + 1 ≤ vec_capacity room.blocks }
     requires segments { length list.now.segments + 1 ≤ vec_capacity room.segments }
     requires loose { length edit.loose.now + length list.now.blocks + length list.now.segments
-        + length (flush_part edit.flush) + length (one_of edit.compaction) ≤ vec_capacity room.loose }
+        + length (flush_part edit.flush) + length (one_of edit.compaction)
+        ≤ vec_capacity room.loose }
     ensures { IsEdited list.now (edit_of edit.entry) result }
 {
     let ListRoom {

@@ -39,11 +39,14 @@ pub trait LookPort {
     /// history that is known after it. What the port keeps stays as it was.
     fn look(&mut self) -> Result<Look, Memory>
         ensures called { Called meaning self.old TakeLook (look_reply result) self.new }
-        ensures pins { IfOk result (λ look. (infos : List InfoParts) → meaning.lists self.old infos → look.pin.blocks ≡ infos) }
-        ensures kept { IfOk result (λ look. (kept : Kept) → meaning.keeps self.old kept → HasKept (meaning.shows self.new) look kept) }
+        ensures pins { IfOk result (λ look. (infos : List InfoParts) → meaning.lists self.old infos
+            → look.pin.blocks ≡ infos) }
+        ensures kept { IfOk result (λ look. (kept : Kept) → meaning.keeps self.old kept
+            → HasKept (meaning.shows self.new) look kept) }
         ensures left { LeavesKept meaning self.old self.new }
         ensures shows { IfOk result (λ look. (v : View) → meaning.knows self.new v →
-            ShowsHistory (IsTrue (meaning.tells self.new)) (meaning.shows self.new) look v.history) };
+            ShowsHistory (IsTrue (meaning.tells self.new))
+            (meaning.shows self.new) look v.history) };
 
     /// Gives a look back, and ends its pin. Only one that this port gave and that is open is taken. What the port keeps stays as it
     /// was.
@@ -68,7 +71,8 @@ pub trait FlushPort: LookPort {
 
     /// Begins a flush of the head's first 1,048,576 rows at most; none where the head is empty.
     fn begin_flush(&mut self) -> Result<Option<FlushJob>, BeginError>
-        ensures called { Called Self.meaning self.old BeginFlush (begin_flush_reply result) self.new }
+        ensures called { Called Self.meaning self.old BeginFlush
+            (begin_flush_reply result) self.new }
         ensures fresh { IfOk result (λ begun. IfSome begun (λ job.
             (job.out.written ≡ 0) × (1 ≤ length job.rows) × (length job.rows ≤ 1048576))) };
 
@@ -79,14 +83,17 @@ pub trait FlushPort: LookPort {
         requires open { IsJobOf out.now (IsOpen Self.meaning self.now) }
         requires whole { IsTrue (Self.meaning.tells self.now) → Self.meaning.writes self.now →
             HasWritten (Self.meaning.shows self.now) out.now }
-        ensures called { Called Self.meaning self.old (WritePiece out.old.number out.old.file bytes.now)
+        ensures called { Called Self.meaning self.old
+            (WritePiece out.old.number out.old.file bytes.now)
             (write_reply result) self.new }
         ensures raised { OnOk result (out.new.written ≡ out.old.written + length bytes.now) }
         ensures kept { OnErr result (out.new.written ≡ out.old.written) }
-        ensures whole { IsTrue (Self.meaning.tells self.old) → HasWritten (Self.meaning.shows self.old) out.old →
+        ensures whole { IsTrue (Self.meaning.tells self.old)
+            → HasWritten (Self.meaning.shows self.old) out.old →
             result ≢ Err Fault → HasWritten (Self.meaning.shows self.new) out.new }
         ensures broken { result ≡ Err Fault → Self.meaning.writes self.new → ⊥ }
-        ensures refused { (Self.meaning.writes self.old → ⊥) → (faults : ℕ) × (result ≡ Err (ReadOnly faults)) }
+        ensures refused { (Self.meaning.writes self.old → ⊥)
+            → (faults : ℕ) × (result ≡ Err (ReadOnly faults)) }
         ensures same { (out.new.number ≡ out.old.number) × (out.new.file ≡ out.old.file) };
 
     /// Lists a flush's block, which its file holds and the information describes, where bytes are told. The job is spent, refused
@@ -114,7 +121,8 @@ pub trait FlushPort: LookPort {
         buf: &mut [u8; 4096],
     ) -> Result<(), Failed>
         requires open { IsPinOf pin.now block (IsOpen Self.meaning self.now) }
-        ensures called { Called Self.meaning self.old (ReadPage pin.now.number block page) (page_reply buf.new result)
+        ensures called { Called Self.meaning self.old (ReadPage pin.now.number block page)
+            (page_reply buf.new result)
             self.new }
         ensures bytes { IsTrue (Self.meaning.tells self.old) →
             OnOk result (buf.new ≡ page_of (Self.meaning.shows self.old block) page) }
@@ -127,12 +135,16 @@ pub trait Port: FlushPort {
     /// Begins a compaction of the blocks that are to be joined next; none where no two of a level below 63 fit together. Their
     /// files hold blocks as their information describes them where bytes are told and a history is known after it.
     fn begin_compact(&mut self) -> Result<Option<CompactJob>, BeginError>
-        ensures called { Called Self.meaning self.old BeginCompact (begin_compact_reply result) self.new }
+        ensures called { Called Self.meaning self.old BeginCompact
+            (begin_compact_reply result) self.new }
         ensures fresh { IfOk result (λ begun. IfSome begun (λ job. job.out.written ≡ 0)) }
-        ensures joins { (held : List Hold) → Self.meaning.holds self.old held → IfOk result (λ begun. IfSome begun (λ job.
+        ensures joins { (held : List Hold) → Self.meaning.holds self.old held
+            → IfOk result (λ begun. IfSome begun (λ job.
             JoinsChoice (Self.meaning.lists self.old) job.level job.pin.blocks)) }
-        ensures blocks { IsTrue (Self.meaning.tells self.new) → IfOk result (λ begun. IfSome begun (λ job.
-            (v : View) → Self.meaning.knows self.new v → AreBlocks (Self.meaning.shows self.new) job.pin.blocks)) };
+        ensures blocks { IsTrue (Self.meaning.tells self.new)
+            → IfOk result (λ begun. IfSome begun (λ job.
+            (v : View) → Self.meaning.knows self.new v
+            → AreBlocks (Self.meaning.shows self.new) job.pin.blocks)) };
 
     /// Lists a compaction's block, which its file holds and the information describes, where bytes are told, in the place of those
     /// that it joins. The job is spent, refused or not.
@@ -140,7 +152,8 @@ pub trait Port: FlushPort {
         requires open { IsOpen Self.meaning self.now (compact_of job) }
         requires size { (1 ≤ info.rows) × (info.rows ≤ 1048576) }
         requires names { NamesJob job.out.file job.level info }
-        requires block { IsTrue (Self.meaning.tells self.now) → IsJoinedBlock (Self.meaning.shows self.now)
+        requires block { IsTrue (Self.meaning.tells self.now)
+            → IsJoinedBlock (Self.meaning.shows self.now)
             (Self.meaning.shows self.now job.out.file) info job.pin.blocks }
         ensures { Called Self.meaning self.old (CommitCompact job.out.number info.rows)
             (write_reply result) self.new };

@@ -48,7 +48,8 @@ type End = (Round, Result<u64, ReclaimError>);
 
 fn joins<P: Port>(alloc: Global, port: &mut P) -> End
     requires { (held : List Hold) × P.meaning.holds port.old held }
-    ensures { (look : Look) → IsOpen P.meaning port.old (look_of look) → IsOpen P.meaning port.new (look_of look) }
+    ensures { (look : Look) → IsOpen P.meaning port.old (look_of look)
+        → IsOpen P.meaning port.new (look_of look) }
 {
     let round = compact_round(alloc, port);
     (round, port.reclaim())

@@ -14,7 +14,8 @@ ghost use Rattle.stored_history.specs.Alike.{AreAlike};
 
 /// An image stores one list of rows, in one order, and one number of entries.
 pub fn one_stored_list_of_rows()
-    ensures { (image : Image) (rows others : List Row) (count number : ℕ) → ImageStores image rows count
+    ensures { (image : Image) (rows others : List Row) (count number : ℕ)
+        → ImageStores image rows count
         → ImageStores image others number → (rows ≡ others) × (count ≡ number) }
 {}
 
@@ -22,8 +23,10 @@ pub fn one_stored_list_of_rows()
 /// stands for each that is alike to one of them. Nothing more can be said: in which order the rows came, and which of
 /// them a history has as its base, no image tells.
 pub fn one_stored_history()
-    ensures alike { (image : Image) (h g : History) → ImageStandsFor image h → ImageStandsFor image g → AreAlike h g }
-    ensures whole { (image : Image) (h g : History) → ImageStandsFor image h → AreAlike h g → ImageStandsFor image g }
+    ensures alike { (image : Image) (h g : History) → ImageStandsFor image h
+        → ImageStandsFor image g → AreAlike h g }
+    ensures whole { (image : Image) (h g : History) → ImageStandsFor image h → AreAlike h g
+        → ImageStandsFor image g }
 {}
 
 /// An image that may stand for a history, or for it and an entry that isn't sure, stands for no other history.
@@ -35,8 +38,10 @@ pub fn no_other_history()
 /// Alike histories stay alike, whatever entries are added to both. Rows that are all the first occurrences of the one,
 /// in order, are those of the other.
 pub fn alike_histories_stay_alike()
-    ensures grown { (h g : History) (more : List Entry) → AreAlike h g → AreAlike (grown h more) (grown g more) }
-    ensures firsts { (h g : History) (rows : List Row) → AreAlike h g → AreFirstIn h rows → AreFirstIn g rows }
+    ensures grown { (h g : History) (more : List Entry) → AreAlike h g
+        → AreAlike (grown h more) (grown g more) }
+    ensures firsts { (h g : History) (rows : List Row) → AreAlike h g → AreFirstIn h rows
+        → AreFirstIn g rows }
 {}
 
 /// A history is alike to itself; and so it goes both ways, and on from one to the next.

@@ -30,7 +30,8 @@ pub fn keep_column<K: Keep>(
     kind: &K,
     count: u64,
 ) -> Option<Vec<K::Item>>
-    ensures { IfSome result (λ xs. Keeps (column_at (K.reading kind.now) count) reader.old xs.items reader.new) }
+    ensures { IfSome result
+        (λ xs. Keeps (column_at (K.reading kind.now) count) reader.old xs.items reader.new) }
 {
     let Ok(mut values) = Vec::with_capacity(alloc, count as usize) else {
         return None;

@@ -109,7 +109,8 @@ impl Leap for Parents {
 
 /// A value of an attribute. Of a tag that no value has nothing is said.
 fn leap_value(reader: &mut Reader) -> bool
-    ensures { IsTrue result → (texts : List (List ℕ)) → Leaps (value_with texts) reader.old reader.new }
+    ensures { IsTrue result → (texts : List (List ℕ))
+        → Leaps (value_with texts) reader.old reader.new }
 {
     let Ok(tag) = reader.byte() else {
         return false;

@@ -22,7 +22,8 @@ pub trait Leap {
 
 /// Jumps over so many values.
 pub fn leap_items<L: Leap>(reader: &mut Reader, kind: &L, count: u64) -> bool
-    ensures { IsTrue result → (texts : List (List ℕ)) → Leaps (items_at (L.reading kind.now texts) count []) reader.old reader.new }
+    ensures { IsTrue result → (texts : List (List ℕ))
+        → Leaps (items_at (L.reading kind.now texts) count []) reader.old reader.new }
 {
     for _ in 0..count {
         if !kind.leap(reader) {
@@ -34,7 +35,8 @@ pub fn leap_items<L: Leap>(reader: &mut Reader, kind: &L, count: u64) -> bool
 
 /// Jumps over a count, and so many values.
 pub fn leap_counted<L: Leap>(reader: &mut Reader, kind: &L) -> bool
-    ensures { IsTrue result → (texts : List (List ℕ)) → Leaps (counted_at (L.reading kind.now texts)) reader.old reader.new }
+    ensures { IsTrue result → (texts : List (List ℕ))
+        → Leaps (counted_at (L.reading kind.now texts)) reader.old reader.new }
 {
     let Ok(count) = reader.var() else {
         return false;

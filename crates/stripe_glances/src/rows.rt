@@ -21,7 +21,8 @@ use std::alloc::Global;
 
 /// What the content of a stripe tells, which begins with its texts, its resources and its scopes.
 pub fn content(alloc: Global, reader: &mut Reader) -> Option<Glance>
-    ensures { IfSome result (λ g. (extended : Bool) → Shows (λ rows. IsGlance rows g) (content_at extended) reader.old) }
+    ensures { IfSome result (λ g. (extended : Bool)
+        → Shows (λ rows. IsGlance rows g) (content_at extended) reader.old) }
 {
     if !leap_counted(reader, &Texts) {
         return None;
@@ -37,8 +38,11 @@ pub fn content(alloc: Global, reader: &mut Reader) -> Option<Glance>
 
 /// The number of rows, and what their columns tell.
 fn counted_rows(alloc: Global, reader: &mut Reader) -> Option<Glance>
-    ensures { IfSome result (λ g. (extended : Bool) (texts : List (List ℕ)) (resources : Listed Resource) (scopes : Listed Scope)
-        → Shows (λ rows. IsGlance rows g) (counted_rows_at true extended texts resources scopes) reader.old) }
+    ensures { IfSome result
+        (λ g. (extended : Bool) (texts : List (List ℕ)) (resources : Listed Resource)
+        (scopes : Listed Scope)
+        → Shows (λ rows. IsGlance rows g)
+        (counted_rows_at true extended texts resources scopes) reader.old) }
 {
     let Ok(count) = reader.var() else {
         return None;
@@ -63,8 +67,11 @@ fn leap_span_ids(reader: &mut Reader, count: u64) -> bool
 /// What the columns of so many rows tell, up to that of the statuses.
 fn columns(alloc: Global, reader: &mut Reader, count: u64) -> Option<Glance>
     requires { count ≤ 256 }
-    ensures { IfSome result (λ g. (extended : Bool) (texts : List (List ℕ)) (resources : Listed Resource) (scopes : Listed Scope)
-        → Shows (λ cells. IsGlance (rows_of cells) g) (cells_at true extended texts resources scopes count) reader.old) }
+    ensures { IfSome result
+        (λ g. (extended : Bool) (texts : List (List ℕ)) (resources : Listed Resource)
+        (scopes : Listed Scope)
+        → Shows (λ cells. IsGlance (rows_of cells) g)
+        (cells_at true extended texts resources scopes count) reader.old) }
 {
     let traces = keep_column(alloc, reader, &TraceIds, count)?;
     if !leap_span_ids(reader, count) {

@@ -13,7 +13,8 @@ use std::alloc::Global;
 /// jumped over, and what stands after the statuses isn't looked at. So nothing is said of a stripe that is malformed,
 /// and None says nothing.
 pub fn glance(alloc: Global, bytes: &[u8]) -> Option<Glance>
-    ensures { IfSome result (λ g. (extended : Bool) → TellsIfRead IsGlance (stripe_at extended bytes.now) g) }
+    ensures { IfSome result (λ g. (extended : Bool)
+        → TellsIfRead IsGlance (stripe_at extended bytes.now) g) }
 {
     let mut reader = Reader::new(alloc, bytes);
     let Ok(size) = reader.fixed64() else {

@@ -27,7 +27,8 @@ pub fn pass_reference(fields: &mut Fields, texts: usize) -> Option<usize>
 
 // A value: by its tag it refers to a text of the table, or stands there in full.
 fn pass_value(fields: &mut Fields, texts: usize) -> bool
-    ensures { IsTrue result → (table : List (List ℕ)) → length table ≡ texts → Passes (value_with table fields.old) fields.new }
+    ensures { IsTrue result → (table : List (List ℕ)) → length table ≡ texts
+        → Passes (value_with table fields.old) fields.new }
 {
     let mut ahead = fields.fork();
     let Ok(tag) = ahead.byte() else {
@@ -45,8 +46,10 @@ fn pass_value(fields: &mut Fields, texts: usize) -> bool
 fn pass_attr(fields: &mut Fields, stamps: &mut [u32], list: u32) -> bool
     ensures size { length stamps.new ≡ length stamps.old }
     ensures before { AreBefore (list + 1) stamps.old → AreBefore (list + 1) stamps.new }
-    ensures passes { IsTrue result → (table : List (List ℕ)) (before : List Attr) → length table ≡ length stamps.old → AreApart table
-        → AreStamped stamps.old list table before → PassesAttr table before stamps.new list fields.old fields.new }
+    ensures passes { IsTrue result → (table : List (List ℕ)) (before : List Attr)
+        → length table ≡ length stamps.old → AreApart table
+        → AreStamped stamps.old list table before
+        → PassesAttr table before stamps.new list fields.old fields.new }
 {
     let texts = stamps.len();
     let Some(key) = pass_reference(fields, texts) else {
@@ -64,7 +67,8 @@ fn pass_each(fields: &mut Fields, stamps: &mut [u32], list: u32, count: u64) -> 
     requires fresh { AreBefore list stamps.old }
     ensures size { length stamps.new ≡ length stamps.old }
     ensures before { AreBefore (list + 1) stamps.new }
-    ensures passes { IsTrue result → (table : List (List ℕ)) → length table ≡ length stamps.old → AreApart table
+    ensures passes { IsTrue result → (table : List (List ℕ)) → length table ≡ length stamps.old
+        → AreApart table
         → Passes (items_at (attr_with table) count [] fields.old) fields.new }
 {
     for _ in 0..count {
@@ -82,7 +86,8 @@ pub fn pass_attrs(fields: &mut Fields, stamps: &mut [u32], list: u32) -> bool
     requires fresh { AreBefore list stamps.old }
     ensures size { length stamps.new ≡ length stamps.old }
     ensures before { AreBefore (list + 1) stamps.new }
-    ensures passes { IsTrue result → (table : List (List ℕ)) → length table ≡ length stamps.old → AreApart table
+    ensures passes { IsTrue result → (table : List (List ℕ)) → length table ≡ length stamps.old
+        → AreApart table
         → Passes (attrs_with table fields.old) fields.new }
 {
     let Ok(count) = fields.number() else {

@@ -56,7 +56,8 @@ fn cells(
 ) -> Option<Sketch>
     requires { AreApart texts.now }
     ensures { IfSome result (λ sketch. TellsCells IsSketch
-        (cells_at true extended texts.now (record { list = resources.entry.list; values = resources.entry.values.now })
+        (cells_at true extended texts.now
+        (record { list = resources.entry.list; values = resources.entry.values.now })
         (record { list = scopes.entry.list; values = scopes.entry.values.now }) count fields.old) sketch fields.new) }
 {
     let attrs = AttrLists {

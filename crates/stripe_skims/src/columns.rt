@@ -30,7 +30,8 @@ pub trait Skim {
     /// Passes over so many rows. None says nothing.
     fn skim(&mut self, alloc: Global, fields: &mut Fields, count: u64) -> Option<Self::Seen>
         requires { ready self.old }
-        ensures { IfSome result (λ seen. Skims (shows self.old) count (reading self.old count fields.old) seen fields.new) };
+        ensures { IfSome result (λ seen.
+            Skims (shows self.old) count (reading self.old count fields.old) seen fields.new) };
 }
 
 /// A column whose values are kept.

@@ -50,7 +50,8 @@ pub fn pass_items<P: Pass>(fields: &mut Fields, kind: &mut P, count: u64) -> boo
     requires { P.ready kind.old }
     ensures stays { (s : Spot) → P.reading kind.new s ≡ P.reading kind.old s }
     ensures ready { P.ready kind.new }
-    ensures passes { IsTrue result → Passes (column_at (P.reading kind.old) count fields.old) fields.new }
+    ensures passes { IsTrue result
+        → Passes (column_at (P.reading kind.old) count fields.old) fields.new }
 {
     for _ in 0..count {
         if !kind.pass(fields) {
@@ -66,7 +67,8 @@ pub fn pass_list<P: Pass>(fields: &mut Fields, kind: &mut P, there: bool) -> Opt
     ensures stays { (s : Spot) → P.reading kind.new s ≡ P.reading kind.old s }
     ensures ready { P.ready kind.new }
     ensures passes { IfSome result (λ some. (items : List P.Item)
-        × (only_if_at there (counted_at (λ _. P.reading kind.old)) fields.old ≡ Ok (items, fields.new)) × (some ≡ not (length items == 0))) }
+        × (only_if_at there (counted_at (λ _. P.reading kind.old)) fields.old
+        ≡ Ok (items, fields.new)) × (some ≡ not (length items == 0))) }
 {
     if !there {
         return Some(false);
@@ -88,7 +90,10 @@ pub fn pass_lists<P: Pass>(
     count: u64,
 ) -> Option<bool>
     requires { P.ready kind.old }
-    ensures { IfSome result (λ some. Skims TellsFilled count (column_at (only_if_at there (counted_at (λ _. P.reading kind.old))) count fields.old) some fields.new) }
+    ensures { IfSome result
+        (λ some. Skims TellsFilled count
+        (column_at (only_if_at there
+        (counted_at (λ _. P.reading kind.old))) count fields.old) some fields.new) }
 {
     let mut some = false;
     for _ in 0..count {

@@ -21,7 +21,8 @@ pub struct RowKey {
 
 /// The key of the row with this number, where there is one.
 pub fn key(sketch: &Sketch, index: usize) -> Option<RowKey>
-    ensures { IfSome result (λ key. (rows : List Row) → IsSketch rows sketch.now → slice_get (map key_of rows) index ≡ Some key) }
+    ensures { IfSome result (λ key. (rows : List Row) → IsSketch rows sketch.now
+        → slice_get (map key_of rows) index ≡ Some key) }
 {
     let traces = sketch.traces.as_slice();
     let starts = sketch.starts.as_slice();

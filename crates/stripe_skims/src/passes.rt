@@ -59,7 +59,8 @@ impl<'t> AttrLists<'t> {
         requires { AreReady self.old.texts.now self.old.stamps.items self.old.list }
         ensures stays { self.new.texts ≡ self.old.texts }
         ensures ready { AreReady self.new.texts.now self.new.stamps.items self.new.list }
-        ensures passes { IsTrue result → Passes (attrs_with self.old.texts.now fields.old) fields.new }
+        ensures passes { IsTrue result
+            → Passes (attrs_with self.old.texts.now fields.old) fields.new }
     {
         let Some(next) = self.list.checked_add(1) else {
             return false;

@@ -35,14 +35,16 @@ pub trait Walk {
     ) -> Option<Self::Seen>
         requires { AreApart texts.now }
         ensures { IfSome result (λ seen. TellsCells (tells self.now)
-            (cells_at true extended texts.now (record { list = resources.entry.list; values = resources.entry.values.now })
+            (cells_at true extended texts.now
+            (record { list = resources.entry.list; values = resources.entry.values.now })
             (record { list = scopes.entry.list; values = scopes.entry.values.now }) count fields.old) seen fields.new) };
 }
 
 /// What is told of a stripe, in form 1, or in form 2, which has events and links; in whatever order its rows are. None
 /// says nothing: the stripe is malformed, or memory ran out. Texts, resources and scopes are made, once a stripe.
 pub fn go_over<W: Walk>(alloc: Global, bytes: &[u8], extended: bool, walk: &W) -> Option<W::Seen>
-    ensures { IfSome result (λ seen. TellsAll (W.tells walk.now) (unordered_at extended bytes.now) seen) }
+    ensures { IfSome result
+        (λ seen. TellsAll (W.tells walk.now) (unordered_at extended bytes.now) seen) }
 {
     let mut reader = Reader::new(alloc, bytes);
     let Ok(size) = fixed64(&mut reader, false) else {
@@ -65,7 +67,8 @@ fn content_of<W: Walk>(
     walk: &W,
 ) -> Option<W::Seen>
     requires { 8 ≤ length bytes.now }
-    ensures told { IfSome result (λ seen. TellsAll (W.tells walk.now) (content_of extended bytes.now size) seen) }
+    ensures told { IfSome result
+        (λ seen. TellsAll (W.tells walk.now) (content_of extended bytes.now size) seen) }
     ensures whole { IfSome result (λ _. 8 + size ≤ length bytes.now) }
 {
     if size > bytes.len() as u64 - 8 {
@@ -82,7 +85,8 @@ fn content_of<W: Walk>(
 
 /// The texts, and the rows, which use each of them.
 fn content<W: Walk>(alloc: Global, fields: &mut Fields, extended: bool, walk: &W) -> Option<W::Seen>
-    ensures { IfSome result (λ seen. TellsRows (W.tells walk.now) (content_at extended fields.old) seen fields.new) }
+    ensures { IfSome result
+        (λ seen. TellsRows (W.tells walk.now) (content_at extended fields.old) seen fields.new) }
 {
     let Ok(texts) = table(alloc, fields, &WholeTexts) else {
         return None;
@@ -104,7 +108,9 @@ fn owned_rows<W: Walk>(
     walk: &W,
 ) -> Option<W::Seen>
     requires { AreApart texts.now }
-    ensures { IfSome result (λ seen. TellsRows (W.tells walk.now) (owned_rows_at true extended texts.now fields.old) seen fields.new) }
+    ensures { IfSome result
+        (λ seen. TellsRows (W.tells walk.now)
+        (owned_rows_at true extended texts.now fields.old) seen fields.new) }
 {
     let list = fields.fork();
     let Ok(resources) = table(alloc, fields, &Resources { alloc, texts }) else {
@@ -130,7 +136,8 @@ fn scoped_rows<W: Walk>(
     walk: &W,
 ) -> Option<W::Seen>
     requires { AreApart texts.now }
-    ensures { IfSome result (λ seen. TellsRows (W.tells walk.now) (scoped_rows_at true extended texts.now
+    ensures { IfSome result
+        (λ seen. TellsRows (W.tells walk.now) (scoped_rows_at true extended texts.now
         (record { list = resources.entry.list; values = resources.entry.values.now }) fields.old) seen fields.new) }
 {
     let list = fields.fork();

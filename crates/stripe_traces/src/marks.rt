@@ -18,8 +18,10 @@ pub struct Marks {
 /// Marks the rows that are of one of these traces, whose ids ascend, by the traces of all rows. None if memory ran out.
 pub fn mark_rows(alloc: Global, traces: &[TraceId], ids: &[TraceId]) -> Option<Marks>
     requires { AreInOrder ids.now }
-    ensures wanted { IfSome result (λ marks. marks.wanted.items ≡ map (is_one_of ids.now) traces.now) }
-    ensures traces { IfSome result (λ marks. marks.traces.items ≡ filter (is_one_of ids.now) traces.now) }
+    ensures wanted { IfSome result
+        (λ marks. marks.wanted.items ≡ map (is_one_of ids.now) traces.now) }
+    ensures traces { IfSome result
+        (λ marks. marks.traces.items ≡ filter (is_one_of ids.now) traces.now) }
 {
     let mut wanted = Vec::new(alloc);
     let mut kept = Vec::new(alloc);

@@ -15,7 +15,8 @@ use stripe_skims::{AttrLists, Events, Links, Pass, pass_list, stamps_of};
 /// How lists of attributes are passed over, before the first of them.
 pub fn attr_lists<'t>(alloc: Global, texts: &'t [Text]) -> Option<AttrLists<'t>>
     requires { AreApart texts.now }
-    ensures { IfSome result (λ lists. (lists.texts.now ≡ texts.now) × AreReady texts.now lists.stamps.items lists.list) }
+    ensures { IfSome result (λ lists. (lists.texts.now ≡ texts.now)
+        × AreReady texts.now lists.stamps.items lists.list) }
 {
     let stamps = stamps_of(alloc, texts)?;
     Some(AttrLists {

@@ -31,9 +31,11 @@ pub fn traces_of_stripe(
     ids: &[TraceId],
 ) -> Option<StripeTraces>
     requires { AreInOrder ids.now }
-    ensures told { IfSome result (λ found. (rows : List AnyRow) → stripe_at extended bytes.now ≡ Ok rows
+    ensures told { IfSome result (λ found. (rows : List AnyRow)
+        → stripe_at extended bytes.now ≡ Ok rows
         → HasTraces ids.now rows found) }
-    ensures of_traces { IfSome result (λ found. rows_of_traces ids.now found.rows.items ≡ found.rows.items) }
+    ensures of_traces { IfSome result
+        (λ found. rows_of_traces ids.now found.rows.items ≡ found.rows.items) }
 {
     let found = go_over(alloc, bytes, extended, &Wanted { ids, entry })?;
     if !start_within(found.rows.as_slice(), entry) {

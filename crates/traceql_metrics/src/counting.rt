@@ -16,9 +16,11 @@ pub(crate) fn counts_of(
     requires order { steps.start < steps.end }
     requires some { 0 < steps.step }
     requires few { bucket_count steps.start steps.end steps.step ≤ most_buckets }
-    ensures one_each { IfOk result (λ counts. length counts.items ≡ bucket_count steps.start steps.end steps.step) }
+    ensures one_each { IfOk result
+        (λ counts. length counts.items ≡ bucket_count steps.start steps.end steps.step) }
     ensures each { IfOk result (λ counts. (i : ℕ) → i < length counts.items
-        → slice_index counts.items i ≡ count_by (is_in_bucket steps.start steps.end steps.step i) moments.now) }
+        → slice_index counts.items i
+        ≡ count_by (is_in_bucket steps.start steps.end steps.step i) moments.now) }
 {
     let count = buckets(steps.start, steps.end, steps.step) as usize;
     let mut counts = vec![in alloc; 0u64; count]?;

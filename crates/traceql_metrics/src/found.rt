@@ -35,7 +35,8 @@ pub(crate) fn sets_in_order<'r>(
     steps: TimeSteps,
 ) -> Result<Vec<Found<'r>>, Memory>
     ensures same { IfOk result (λ found.
-        IsPermutation (filter (begins_in steps.start steps.end) (sets_of results.now)) found.items) }
+        IsPermutation (filter (begins_in steps.start steps.end)
+        (sets_of results.now)) found.items) }
     ensures sorted { IfOk result (λ found. IsSortedByKey by_of values_cmp found.items) }
 {
     let mut found = sets_in_range(alloc, results, steps)?;
@@ -49,7 +50,8 @@ fn sets_in_range<'r>(
     results: &'r Results,
     steps: TimeSteps,
 ) -> Result<Vec<Found<'r>>, Memory>
-    ensures { IfOk result (λ found. found.items ≡ filter (begins_in steps.start steps.end) (sets_of results.now)) }
+    ensures { IfOk result
+        (λ found. found.items ≡ filter (begins_in steps.start steps.end) (sets_of results.now)) }
 {
     let mut found = Vec::new(alloc);
     for trace in results.as_slice() {
@@ -64,7 +66,8 @@ fn add_those_in_range<'r>(
     steps: TimeSteps,
     found: &mut Vec<Found<'r>>,
 ) -> Result<(), Memory>
-    ensures { OnOk result (found.new.items ≡ found.old.items ++ filter (begins_in steps.start steps.end) sets.now) }
+    ensures { OnOk result
+        (found.new.items ≡ found.old.items ++ filter (begins_in steps.start steps.end) sets.now) }
 {
     for set in sets {
         if begins_in(set, steps) {

@@ -74,7 +74,8 @@ fn moments_of(alloc: Global, group: &[Found<'_>]) -> Result<Vec<u64>, Memory>
 
 // Adds when spans began.
 fn add_starts(hits: &[Hit], moments: &mut Vec<u64>) -> Result<(), Memory>
-    ensures { OnOk result (moments.new.items ≡ moments.old.items ++ map (λ hit. hit.start) hits.now) }
+    ensures { OnOk result
+        (moments.new.items ≡ moments.old.items ++ map (λ hit. hit.start) hits.now) }
 {
     for hit in hits {
         moments.push(hit.start)?;

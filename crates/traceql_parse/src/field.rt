@@ -204,7 +204,8 @@ fn read_operand<'a>(
     tokens: &'a [Token],
     depth: u32,
 ) -> Result<(Operand, &'a [Token]), Stop<'a>>
-    ensures { Gives (λ x. (placed x.0, x.1.now)) result (operand_of (below depth) level tokens.now) }
+    ensures { Gives (λ x. (placed x.0, x.1.now)) result
+        (operand_of (below depth) level tokens.now) }
 {
     match level {
         Level::Product => read_power(alloc, tokens, depth),
@@ -223,7 +224,8 @@ fn read_item<'a>(
     tokens: &'a [Token],
     depth: u32,
 ) -> Result<(Item, &'a [Token]), Stop<'a>>
-    ensures { Gives (λ x. (item_tree x.0, x.1.now)) result (item level (operand_of (below depth) level) tokens.now) }
+    ensures { Gives (λ x. (item_tree x.0, x.1.now)) result
+        (item level (operand_of (below depth) level) tokens.now) }
 {
     match first_item(level, tokens) {
         Some((at, ItemSign::Operator(op), rest)) => {

@@ -120,7 +120,8 @@ pub fn read_measure<'a>(
     negative: bool,
     tokens: &'a [Token],
 ) -> Result<(Threshold, &'a [Token]), Stop<'a>>
-    ensures { Gives (λ x. (threshold_tree x.0, x.1.now)) result (expect (measure_at negative) tokens.now) }
+    ensures { Gives (λ x. (threshold_tree x.0, x.1.now)) result
+        (expect (measure_at negative) tokens.now) }
 {
     let Some((first, rest)) = tokens.split_first() else {
         return Err(Stop::Refused(Cause::Unfinished, tokens));

@@ -252,7 +252,8 @@ fn set_of(level: SpansetLevel, sign: Sign) -> Option<SpansetOp>
 
 /// A unary operator at the front.
 pub fn first_unary(tokens: &[Token]) -> Option<(u64, UnaryOp, &[Token])>
-    ensures { option_map (λ x. ((x.0, x.1), x.2.now)) result ≡ next_sign tables.prefix_sign tokens.now }
+    ensures { option_map (λ x. ((x.0, x.1), x.2.now)) result
+        ≡ next_sign tables.prefix_sign tokens.now }
 {
     let (at, sign, rest) = first_sign(tokens)?;
     Some((at, unary_of(sign)?, rest))
@@ -260,7 +261,8 @@ pub fn first_unary(tokens: &[Token]) -> Option<(u64, UnaryOp, &[Token])>
 
 /// A comparison, with which the tokens have to begin: its place, and the tokens after it.
 pub fn take_comparison<'a>(tokens: &'a [Token]) -> Result<(u64, Comparison, &'a [Token]), Stop<'a>>
-    ensures { Gives (λ x. ((x.0, x.1), x.2.now)) result (expect_sign tables.comparison_sign tokens.now) }
+    ensures { Gives (λ x. ((x.0, x.1), x.2.now)) result
+        (expect_sign tables.comparison_sign tokens.now) }
 {
     match first_comparison(tokens) {
         Some((at, op, rest)) => Ok((at, op, rest)),
@@ -270,7 +272,8 @@ pub fn take_comparison<'a>(tokens: &'a [Token]) -> Result<(u64, Comparison, &'a 
 
 /// A comparison at the front: its place, and the tokens after it.
 fn first_comparison(tokens: &[Token]) -> Option<(u64, Comparison, &[Token])>
-    ensures { option_map (λ x. ((x.0, x.1), x.2.now)) result ≡ next_sign tables.comparison_sign tokens.now }
+    ensures { option_map (λ x. ((x.0, x.1), x.2.now)) result
+        ≡ next_sign tables.comparison_sign tokens.now }
 {
     let (at, sign, rest) = first_sign(tokens)?;
     Some((at, comparison_of(sign)?, rest))
@@ -278,7 +281,8 @@ fn first_comparison(tokens: &[Token]) -> Option<(u64, Comparison, &[Token])>
 
 /// An operator of this level at the front.
 pub fn first_item(level: Level, tokens: &[Token]) -> Option<(u64, ItemSign, &[Token])>
-    ensures { option_map (λ x. ((x.0, x.1), x.2.now)) result ≡ next_sign (item_sign_of level) tokens.now }
+    ensures { option_map (λ x. ((x.0, x.1), x.2.now)) result
+        ≡ next_sign (item_sign_of level) tokens.now }
 {
     let (at, sign, rest) = first_sign(tokens)?;
     Some((at, item_of(level, sign)?, rest))
@@ -306,7 +310,8 @@ pub fn set_goes_on(level: SpansetLevel, tokens: &[Token]) -> bool
 
 /// An operator between spansets of this level at the front.
 pub fn first_set_op(level: SpansetLevel, tokens: &[Token]) -> Option<(u64, SpansetOp, &[Token])>
-    ensures { option_map (λ x. ((x.0, x.1), x.2.now)) result ≡ next_sign (tables.set_sign level) tokens.now }
+    ensures { option_map (λ x. ((x.0, x.1), x.2.now)) result
+        ≡ next_sign (tables.set_sign level) tokens.now }
 {
     let (at, sign, rest) = first_sign(tokens)?;
     Some((at, set_of(level, sign)?, rest))
@@ -328,7 +333,8 @@ fn aggregate_of(word: Word) -> Option<AggregateWord>
 
 /// The word of an aggregate at the front.
 pub fn first_aggregate(tokens: &[Token]) -> Option<(u64, AggregateWord, &[Token])>
-    ensures { option_map (λ x. ((x.0, x.1), x.2.now)) result ≡ next_word aggregate_word_of tokens.now }
+    ensures { option_map (λ x. ((x.0, x.1), x.2.now)) result
+        ≡ next_word aggregate_word_of tokens.now }
 {
     match tokens {
         [first, rest @ ..] => match first.kind {
@@ -410,7 +416,8 @@ fn metrics_of(word: Word) -> Option<bool>
 
 /// The word at the front that ends a metrics query.
 pub fn first_metrics(tokens: &[Token]) -> Option<(u64, bool, &[Token])>
-    ensures { option_map (λ x. ((x.0, x.1), x.2.now)) result ≡ next_word tables.metrics_word tokens.now }
+    ensures { option_map (λ x. ((x.0, x.1), x.2.now)) result
+        ≡ next_word tables.metrics_word tokens.now }
 {
     match tokens {
         [first, rest @ ..] => match first.kind {

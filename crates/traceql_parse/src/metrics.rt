@@ -131,7 +131,8 @@ pub fn parse_metrics(alloc: Global, text: &str) -> Result<MetricsQuery, ParseErr
     ensures found { IfOk result (λ m.
         (length text.now ≤ MOST_QUERY_BYTES) × ReadsMetrics DEPTH text.now (metrics_tree m)) }
     // What is in the grammar within the limits is read, unless memory ran out.
-    ensures complete { (m : MetricsTree) → length text.now ≤ MOST_QUERY_BYTES → ReadsMetrics DEPTH text.now m →
+    ensures complete { (m : MetricsTree) → length text.now ≤ MOST_QUERY_BYTES
+        → ReadsMetrics DEPTH text.now m →
         MatchResult result (λ p. metrics_tree p ≡ m) (λ e. e ≡ ParseError.Memory) }
     // A refusal is that of the earliest place, with its cause.
     ensures refused { IfErr result (λ e. IsMetricsRefusal text.now e) }
@@ -148,5 +149,6 @@ pub fn parse_metrics(alloc: Global, text: &str) -> Result<MetricsQuery, ParseErr
 
 /// A text is at most one metrics query: a law of the grammar, which `parse_metrics` rests on.
 pub fn one_metrics_query()
-    ensures { (text : List ℕ) (l m : MetricsTree) (d e : ℕ) → ReadsMetrics d text l → ReadsMetrics e text m → l ≡ m }
+    ensures { (text : List ℕ) (l m : MetricsTree) (d e : ℕ) → ReadsMetrics d text l
+        → ReadsMetrics e text m → l ≡ m }
 {}

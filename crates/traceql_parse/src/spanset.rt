@@ -104,7 +104,8 @@ fn read_set_parens<'a>(
     tokens: &'a [Token],
     depth: u32,
 ) -> Result<(SpansetExpr, &'a [Token]), Stop<'a>>
-    ensures { Gives (λ x. (set_tree x.0, x.1.now)) result (set_parens (sets_below depth) tokens.now) }
+    ensures { Gives (λ x. (set_tree x.0, x.1.now)) result
+        (set_parens (sets_below depth) tokens.now) }
 {
     let (_, inside) = take_delimiter(Delimiter::OpenParen, tokens)?;
     let inner = set_entered(depth, tokens)?;
@@ -121,7 +122,8 @@ fn read_part<'a>(
     tokens: &'a [Token],
     depth: u32,
 ) -> Result<(SpansetExpr, &'a [Token]), Stop<'a>>
-    ensures { Gives (λ x. (set_tree x.0, x.1.now)) result (part depth (sets_below depth) tokens.now) }
+    ensures { Gives (λ x. (set_tree x.0, x.1.now)) result
+        (part depth (sets_below depth) tokens.now) }
 {
     if begins_with(Delimiter::OpenParen, tokens) {
         return read_set_parens(alloc, tokens, depth);
@@ -139,7 +141,8 @@ fn read_set_operand<'a>(
     tokens: &'a [Token],
     depth: u32,
 ) -> Result<(SpansetExpr, &'a [Token]), Stop<'a>>
-    ensures { Gives (λ x. (set_tree x.0, x.1.now)) result (set_operand_of depth (sets_below depth) level tokens.now) }
+    ensures { Gives (λ x. (set_tree x.0, x.1.now)) result
+        (set_operand_of depth (sets_below depth) level tokens.now) }
 {
     match level {
         SpansetLevel::Structure => read_part(alloc, tokens, depth),
@@ -156,7 +159,8 @@ fn read_set_item<'a>(
     tokens: &'a [Token],
     depth: u32,
 ) -> Result<(SetItem, &'a [Token]), Stop<'a>>
-    ensures { Gives (λ x. (set_item_tree x.0, x.1.now)) result (set_item level (set_operand_of depth (sets_below depth) level) tokens.now) }
+    ensures { Gives (λ x. (set_item_tree x.0, x.1.now)) result
+        (set_item level (set_operand_of depth (sets_below depth) level) tokens.now) }
 {
     match first_set_op(level, tokens) {
         Some((at, op, rest)) => {
@@ -176,7 +180,8 @@ pub fn read_sets<'a>(
     tokens: &'a [Token],
     depth: u32,
 ) -> Result<(SpansetExpr, &'a [Token]), Stop<'a>>
-    ensures { Gives (λ x. (set_tree x.0, x.1.now)) result (sets depth (sets_below depth) level tokens.now) }
+    ensures { Gives (λ x. (set_tree x.0, x.1.now)) result
+        (sets depth (sets_below depth) level tokens.now) }
 {
     let (mut left, mut rest) = read_set_operand(alloc, level, tokens, depth)?;
     'items: while set_goes_on(level, rest) {

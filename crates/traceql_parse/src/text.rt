@@ -87,7 +87,8 @@ pub fn parse(alloc: Global, text: &str) -> Result<Query, ParseError>
     ensures found { IfOk result (λ q.
         (length text.now ≤ MOST_QUERY_BYTES) × Reads DEPTH text.now (query_tree q)) }
     // What is in the grammar within the limits is read, unless memory ran out.
-    ensures complete { (q : QueryTree) → length text.now ≤ MOST_QUERY_BYTES → Reads DEPTH text.now q →
+    ensures complete { (q : QueryTree) → length text.now ≤ MOST_QUERY_BYTES
+        → Reads DEPTH text.now q →
         MatchResult result (λ p. query_tree p ≡ q) (λ e. e ≡ ParseError.Memory) }
     // The same without places: a text that means a query within the limits is read as an equal one.
     ensures means { IfOk result (λ q. Means text.now (query_tree q)) }
@@ -106,9 +107,11 @@ pub fn parse(alloc: Global, text: &str) -> Result<Query, ParseError>
 
 /// A text is at most one query: a law of the grammar, which `parse` rests on.
 pub fn one_query()
-    ensures one { (text : List ℕ) (p q : QueryTree) (d e : ℕ) → Reads d text p → Reads e text q → p ≡ q }
+    ensures one { (text : List ℕ) (p q : QueryTree) (d e : ℕ) → Reads d text p → Reads e text q
+        → p ≡ q }
     // Without places and without limits: two queries that a text means are equal.
-    ensures equal { (text : List ℕ) (p q : QueryTree) → Means text p → Means text q → bare_query p ≡ bare_query q }
+    ensures equal { (text : List ℕ) (p q : QueryTree) → Means text p → Means text q
+        → bare_query p ≡ bare_query q }
 {}
 
 /// What `parse` counts against its limit of depth is how deep the text nests in the grammar: a law of the grammar.

@@ -21,7 +21,10 @@ fn is_binary(expr: &FieldExpr) -> bool
 /// Writes an operand, in parentheses where it is binary itself.
 #[cycle(exprs)]
 fn write_operand(printer: &mut Printer, operand: &Operand) -> Result<(), Memory>
-    ensures { OnOk result (printer.new ≡ put_all printer.old (kinds.operand (kinds.is_binary (tree operand.now.expr)) (kinds.expr_kinds (tree operand.now.expr)))) }
+    ensures { OnOk result
+        (printer.new ≡ put_all printer.old
+        (kinds.operand (kinds.is_binary (tree operand.now.expr))
+        (kinds.expr_kinds (tree operand.now.expr)))) }
 {
     if !is_binary(&operand.expr) {
         return write_expr(printer, &operand.expr);
@@ -68,7 +71,8 @@ pub(crate) fn write_expr(printer: &mut Printer, expr: &FieldExpr) -> Result<(), 
 
 /// Writes what stands in the braces of a filter.
 fn write_condition(printer: &mut Printer, condition: &Option<Operand>) -> Result<(), Memory>
-    ensures { OnOk result (printer.new ≡ put_all printer.old (kinds.condition_kinds (placed_option condition.now))) }
+    ensures { OnOk result
+        (printer.new ≡ put_all printer.old (kinds.condition_kinds (placed_option condition.now))) }
 {
     match condition {
         Some(operand) => write_expr(printer, &operand.expr),
@@ -78,7 +82,8 @@ fn write_condition(printer: &mut Printer, condition: &Option<Operand>) -> Result
 
 /// Writes a filter with its braces.
 pub(crate) fn write_filter(printer: &mut Printer, condition: &Option<Operand>) -> Result<(), Memory>
-    ensures { OnOk result (printer.new ≡ put_all printer.old (kinds.filter_kinds (placed_option condition.now))) }
+    ensures { OnOk result
+        (printer.new ≡ put_all printer.old (kinds.filter_kinds (placed_option condition.now))) }
 {
     printer.sign(Sign::OpenBrace)?;
     write_condition(printer, condition)?;
@@ -95,7 +100,10 @@ fn is_join(spansets: &SpansetExpr) -> bool
 /// Writes an operand between spansets, in parentheses where it is an operator between spansets itself.
 #[cycle(sets)]
 fn write_set_operand(printer: &mut Printer, operand: &SpansetExpr) -> Result<(), Memory>
-    ensures { OnOk result (printer.new ≡ put_all printer.old (kinds.operand (kinds.is_join (set_tree operand.now)) (kinds.set_kinds (set_tree operand.now)))) }
+    ensures { OnOk result
+        (printer.new ≡ put_all printer.old
+        (kinds.operand (kinds.is_join (set_tree operand.now))
+        (kinds.set_kinds (set_tree operand.now)))) }
 {
     if !is_join(operand) {
         return write_set(printer, operand);
@@ -108,7 +116,8 @@ fn write_set_operand(printer: &mut Printer, operand: &SpansetExpr) -> Result<(),
 /// Writes an expression over spansets.
 #[cycle(sets)]
 pub(crate) fn write_set(printer: &mut Printer, spansets: &SpansetExpr) -> Result<(), Memory>
-    ensures { OnOk result (printer.new ≡ put_all printer.old (kinds.set_kinds (set_tree spansets.now))) }
+    ensures { OnOk result
+        (printer.new ≡ put_all printer.old (kinds.set_kinds (set_tree spansets.now))) }
 {
     match spansets {
         SpansetExpr::Filter { condition, .. } => write_filter(printer, condition),

@@ -22,7 +22,8 @@ use traceql_syntax::{Field, ParseError, Query};
 pub fn print_query(alloc: Global, query: &Query) -> Result<Text, Memory>
     ensures text { IfOk result (λ text. text ≡ query_text (query_tree query.now)) }
     // What some text means, the printed text means too.
-    ensures means { (source : List ℕ) → Means source (query_tree query.now) → IfOk result (λ text. Means text (query_tree query.now)) }
+    ensures means { (source : List ℕ) → Means source (query_tree query.now)
+        → IfOk result (λ text. Means text (query_tree query.now)) }
 {
     let mut printer = Printer::new(alloc);
     write_query(&mut printer, query)?;
@@ -32,7 +33,8 @@ pub fn print_query(alloc: Global, query: &Query) -> Result<Text, Memory>
 /// Prints a query and reads the printed text back: the query again, wherever its printed form is within the limits of
 /// length and depth. Else the refusal is that of the printed text.
 pub fn read_back(alloc: Global, query: &Query) -> Result<Query, ParseError>
-    ensures same { (source : List ℕ) → Means source (query_tree query.now) → KeepsLimits (query_tree query.now) →
+    ensures same { (source : List ℕ) → Means source (query_tree query.now)
+        → KeepsLimits (query_tree query.now) →
         MatchResult result (λ p. bare_query (query_tree p) ≡ bare_query (query_tree query.now))
         (λ e. e ≡ ParseError.Memory) }
 {
@@ -47,7 +49,9 @@ pub fn read_back(alloc: Global, query: &Query) -> Result<Query, ParseError>
 pub fn print_field(alloc: Global, field: &Field) -> Result<Text, Memory>
     ensures text { IfOk result (λ text. text ≡ field_text field.now) }
     // The text has just this token, where the field has a name.
-    ensures token { IsNamed field.now → IfOk result (λ text. AreTokens 0 text (record { at = 0; kind = field_kind field.now } ∷ [])) }
+    ensures token { IsNamed field.now
+        → IfOk result (λ text.
+        AreTokens 0 text (record { at = 0; kind = field_kind field.now } ∷ [])) }
 {
     let mut text = String::new(alloc);
     push_field(&mut text, field)?;
@@ -60,9 +64,11 @@ pub fn print_field(alloc: Global, field: &Field) -> Result<Text, Memory>
 /// the two are equal.
 pub fn printed_once()
     // A printed text means the query that was printed, and no other.
-    ensures once { (source : List ℕ) (q p : QueryTree) → Means source q → Means (query_text q) p → bare_query p ≡ bare_query q }
+    ensures once { (source : List ℕ) (q p : QueryTree) → Means source q → Means (query_text q) p
+        → bare_query p ≡ bare_query q }
     // Queries that are printed alike are equal.
-    ensures distinct { (one two : List ℕ) (q p : QueryTree) → Means one q → Means two p → query_text p ≡ query_text q → bare_query p ≡ bare_query q }
+    ensures distinct { (one two : List ℕ) (q p : QueryTree) → Means one q → Means two p
+        → query_text p ≡ query_text q → bare_query p ≡ bare_query q }
     // Equal queries are printed alike.
     ensures same { (q p : QueryTree) → bare_query p ≡ bare_query q → query_text p ≡ query_text q }
 {

@@ -26,7 +26,9 @@ fn write_bare_call(printer: &mut Printer, word: Word) -> Result<(), Memory>
 
 /// Writes a word and an argument in parentheses.
 fn write_call(printer: &mut Printer, word: Word, argument: &Operand) -> Result<(), Memory>
-    ensures { OnOk result (printer.new ≡ put_all printer.old (kinds.call word (kinds.expr_kinds (tree argument.now.expr)))) }
+    ensures { OnOk result
+        (printer.new ≡ put_all printer.old
+        (kinds.call word (kinds.expr_kinds (tree argument.now.expr)))) }
 {
     printer.word(word)?;
     printer.sign(Sign::OpenParen)?;
@@ -36,7 +38,8 @@ fn write_call(printer: &mut Printer, word: Word, argument: &Operand) -> Result<(
 
 /// Writes an aggregate and its argument.
 fn write_aggregate(printer: &mut Printer, aggregate: &Aggregate) -> Result<(), Memory>
-    ensures { OnOk result (printer.new ≡ put_all printer.old (kinds.aggregate_kinds (aggregate_tree aggregate.now))) }
+    ensures { OnOk result
+        (printer.new ≡ put_all printer.old (kinds.aggregate_kinds (aggregate_tree aggregate.now))) }
 {
     match aggregate {
         Aggregate::Count => write_bare_call(printer, Word::Count),
@@ -46,7 +49,9 @@ fn write_aggregate(printer: &mut Printer, aggregate: &Aggregate) -> Result<(), M
 
 /// Writes a minus where a number is negative.
 fn write_minus(printer: &mut Printer, negative: bool) -> Result<(), Memory>
-    ensures { OnOk result (printer.new ≡ (if negative then put_all printer.old (token.Mark sign.Minus ∷ []) else printer.old)) }
+    ensures { OnOk result
+        (printer.new ≡ (if negative then put_all printer.old
+        (token.Mark sign.Minus ∷ []) else printer.old)) }
 {
     if negative {
         printer.sign(Sign::Minus)?;
@@ -56,7 +61,8 @@ fn write_minus(printer: &mut Printer, negative: bool) -> Result<(), Memory>
 
 /// Writes what an aggregate is compared with.
 fn write_threshold(printer: &mut Printer, threshold: &Threshold) -> Result<(), Memory>
-    ensures { OnOk result (printer.new ≡ put_all printer.old (kinds.threshold_kinds (threshold_tree threshold.now))) }
+    ensures { OnOk result
+        (printer.new ≡ put_all printer.old (kinds.threshold_kinds (threshold_tree threshold.now))) }
 {
     match threshold {
         Threshold::Aggregate(aggregate) => write_aggregate(printer, aggregate),
@@ -103,7 +109,9 @@ fn write_fields(printer: &mut Printer, fields: &Fields) -> Result<(), Memory>
 
 /// Writes `select` and its fields.
 fn write_select(printer: &mut Printer, fields: &Fields) -> Result<(), Memory>
-    ensures { OnOk result (printer.new ≡ put_all printer.old (kinds.call word.Select (kinds.fields_kinds fields.now))) }
+    ensures { OnOk result
+        (printer.new ≡ put_all printer.old
+        (kinds.call word.Select (kinds.fields_kinds fields.now))) }
 {
     printer.word(Word::Select)?;
     printer.sign(Sign::OpenParen)?;
@@ -113,7 +121,8 @@ fn write_select(printer: &mut Printer, fields: &Fields) -> Result<(), Memory>
 
 /// Writes a stage.
 fn write_stage(printer: &mut Printer, stage: &Stage) -> Result<(), Memory>
-    ensures { OnOk result (printer.new ≡ put_all printer.old (kinds.stage_kinds (stage_tree stage.now))) }
+    ensures { OnOk result
+        (printer.new ≡ put_all printer.old (kinds.stage_kinds (stage_tree stage.now))) }
 {
     match stage {
         Stage::Filter { condition, .. } => write_filter(printer, condition),
@@ -135,7 +144,8 @@ fn write_stage(printer: &mut Printer, stage: &Stage) -> Result<(), Memory>
 
 /// Writes stages with a bar before each.
 fn write_stages(printer: &mut Printer, stages: &Stages) -> Result<(), Memory>
-    ensures { OnOk result (printer.new ≡ put_all printer.old (kinds.stages_kinds (map stage_tree stages.now))) }
+    ensures { OnOk result
+        (printer.new ≡ put_all printer.old (kinds.stages_kinds (map stage_tree stages.now))) }
 {
     for stage in stages.as_slice() {
         printer.sign(Sign::Bar)?;
@@ -146,7 +156,8 @@ fn write_stages(printer: &mut Printer, stages: &Stages) -> Result<(), Memory>
 
 /// Writes a query.
 pub(crate) fn write_query(printer: &mut Printer, query: &Query) -> Result<(), Memory>
-    ensures { OnOk result (printer.new ≡ put_all printer.old (kinds.query_kinds (query_tree query.now))) }
+    ensures { OnOk result
+        (printer.new ≡ put_all printer.old (kinds.query_kinds (query_tree query.now))) }
 {
     write_set(printer, &query.spansets)?;
     write_stages(printer, &query.stages)

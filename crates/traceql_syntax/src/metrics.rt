@@ -21,7 +21,8 @@ impl MetricsQuery {
     /// The query that is checked and run for it: its own, with the stage `by` after it if it splits. The one error is
     /// out of memory.
     pub fn into_query(self) -> Result<Query, Memory>
-        ensures { IfOk result (λ q. query_tree q ≡ run_query (query_tree self.query) (metrics_tree self).by) }
+        ensures { IfOk result
+            (λ q. query_tree q ≡ run_query (query_tree self.query) (metrics_tree self).by) }
     {
         let Query { spansets, stages } = self.query;
         let Some(by) = self.by else {

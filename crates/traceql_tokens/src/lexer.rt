@@ -156,7 +156,8 @@ pub fn tokens(alloc: Global, text: &str) -> Result<Tokens, Memory>
 /// if memory runs out.
 pub fn metrics_tokens(alloc: Global, text: &str) -> Result<Tokens, Memory>
     ensures found { IfOk result (λ ts. AreTokensOf METRICS_WORDS 0 text.now ts) }
-    ensures only { (ts : List Token) → AreTokensOf METRICS_WORDS 0 text.now ts → IfOk result (λ us. us ≡ ts) }
+    ensures only { (ts : List Token) → AreTokensOf METRICS_WORDS 0 text.now ts
+        → IfOk result (λ us. us ≡ ts) }
 {
     let found = listed(alloc, &METRICS_WORDS, text)?;
     Ok(Tokens::of(found))
@@ -165,8 +166,10 @@ pub fn metrics_tokens(alloc: Global, text: &str) -> Result<Tokens, Memory>
 /// A text has one list of tokens, and one as a metrics query: laws over the definition, which `tokens` and
 /// `metrics_tokens` rest on.
 pub fn one_reading()
-    ensures query { (at : ℕ) (text : List ℕ) (ts us : List Token) → AreTokens at text ts → AreTokens at text us → ts ≡ us }
-    ensures metrics { (at : ℕ) (text : List ℕ) (ts us : List Token) → AreTokensOf METRICS_WORDS at text ts → AreTokensOf METRICS_WORDS at text us → ts ≡ us }
+    ensures query { (at : ℕ) (text : List ℕ) (ts us : List Token) → AreTokens at text ts
+        → AreTokens at text us → ts ≡ us }
+    ensures metrics { (at : ℕ) (text : List ℕ) (ts us : List Token)
+        → AreTokensOf METRICS_WORDS at text ts → AreTokensOf METRICS_WORDS at text us → ts ≡ us }
 {}
 
 /// Nothing lengthens a token across the end, a space or a closing parenthesis, so a text in which these keep the tokens

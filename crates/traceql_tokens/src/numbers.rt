@@ -100,7 +100,8 @@ fn add_fraction(columns: &mut [u8], fraction: &[u8], nanos: u64) -> u64
     ensures columns { AreColumns columns.new }
     ensures small { result ≤ 4_000_000_000_000 }
     ensures sum { column_value columns.new + result * 10 ^ length columns.old
-        ≡ column_value columns.old + nanos * decimal fraction.now * 10 ^ (length columns.old - length fraction.now) }
+        ≡ column_value columns.old
+        + nanos * decimal fraction.now * 10 ^ (length columns.old - length fraction.now) }
 {
     let mut carry = 0;
     let mut left = fraction.len();
@@ -145,7 +146,8 @@ impl Sum {
         requires whole { AreDigits part.whole.now }
         requires fraction { AreDigits part.fraction.now }
         ensures columns { OnOk result (AreColumns self.new.columns.items) }
-        ensures sum { OnOk result ((ps : List ThePart) → Holds self.old ps → Holds self.new (ps ++ part_of part.entry ∷ [])) }
+        ensures sum { OnOk result ((ps : List ThePart) → Holds self.old ps
+            → Holds self.new (ps ++ part_of part.entry ∷ [])) }
     {
         let places = self.columns.len().max(part.fraction.len());
         self.columns.resize(places, 0)?;
@@ -160,7 +162,8 @@ impl Sum {
 
     /// The token of the sum.
     fn kind(&self) -> TokenKind
-        ensures { (ps : List ThePart) → Holds self.now ps → result ≡ duration_kind (places ps) (scaled (places ps) ps) }
+        ensures { (ps : List ThePart) → Holds self.now ps
+            → result ≡ duration_kind (places ps) (scaled (places ps) ps) }
     {
         if self.whole >= OUT_OF_RANGE {
             TokenKind::Broken(Class::Duration, Fault::NumberRange)

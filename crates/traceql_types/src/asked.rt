@@ -23,7 +23,8 @@ pub struct Asked<'a> {
 
 // Adds the patterns of an expression.
 fn add_expr<'a>(expr: &'a FieldExpr, found: &mut Vec<Asked<'a>>) -> Result<(), Memory>
-    ensures { OnOk result (shown_all found.new.items ≡ shown_all found.old.items ++ in_expr (tree expr.now)) }
+    ensures { OnOk result
+        (shown_all found.new.items ≡ shown_all found.old.items ++ in_expr (tree expr.now)) }
 {
     match expr {
         FieldExpr::Literal { .. } | FieldExpr::Field { .. } => Ok(()),
@@ -50,7 +51,9 @@ fn add_expr<'a>(expr: &'a FieldExpr, found: &mut Vec<Asked<'a>>) -> Result<(), M
 
 // Adds the patterns of a filter.
 fn add_filter<'a>(condition: &'a Option<Operand>, found: &mut Vec<Asked<'a>>) -> Result<(), Memory>
-    ensures { OnOk result (shown_all found.new.items ≡ shown_all found.old.items ++ in_filter (placed_option condition.now)) }
+    ensures { OnOk result
+        (shown_all found.new.items
+        ≡ shown_all found.old.items ++ in_filter (placed_option condition.now)) }
 {
     match condition {
         None => Ok(()),
@@ -60,7 +63,8 @@ fn add_filter<'a>(condition: &'a Option<Operand>, found: &mut Vec<Asked<'a>>) ->
 
 // Adds the patterns of an expression over spansets.
 fn add_set<'a>(spansets: &'a SpansetExpr, found: &mut Vec<Asked<'a>>) -> Result<(), Memory>
-    ensures { OnOk result (shown_all found.new.items ≡ shown_all found.old.items ++ in_set (set_tree spansets.now)) }
+    ensures { OnOk result
+        (shown_all found.new.items ≡ shown_all found.old.items ++ in_set (set_tree spansets.now)) }
 {
     match spansets {
         SpansetExpr::Filter { condition, .. } => add_filter(condition, found),
@@ -73,7 +77,9 @@ fn add_set<'a>(spansets: &'a SpansetExpr, found: &mut Vec<Asked<'a>>) -> Result<
 
 // Adds the patterns of an aggregate.
 fn add_aggregate<'a>(aggregate: &'a Aggregate, found: &mut Vec<Asked<'a>>) -> Result<(), Memory>
-    ensures { OnOk result (shown_all found.new.items ≡ shown_all found.old.items ++ in_aggregate (aggregate_tree aggregate.now)) }
+    ensures { OnOk result
+        (shown_all found.new.items
+        ≡ shown_all found.old.items ++ in_aggregate (aggregate_tree aggregate.now)) }
 {
     match aggregate {
         Aggregate::Count => Ok(()),
@@ -83,7 +89,9 @@ fn add_aggregate<'a>(aggregate: &'a Aggregate, found: &mut Vec<Asked<'a>>) -> Re
 
 // Adds the patterns of what an aggregate is compared with.
 fn add_threshold<'a>(threshold: &'a Threshold, found: &mut Vec<Asked<'a>>) -> Result<(), Memory>
-    ensures { OnOk result (shown_all found.new.items ≡ shown_all found.old.items ++ in_threshold (threshold_tree threshold.now)) }
+    ensures { OnOk result
+        (shown_all found.new.items
+        ≡ shown_all found.old.items ++ in_threshold (threshold_tree threshold.now)) }
 {
     match threshold {
         Threshold::Aggregate(aggregate) => add_aggregate(aggregate, found),
@@ -93,7 +101,8 @@ fn add_threshold<'a>(threshold: &'a Threshold, found: &mut Vec<Asked<'a>>) -> Re
 
 // Adds the patterns of a stage.
 fn add_stage<'a>(stage: &'a Stage, found: &mut Vec<Asked<'a>>) -> Result<(), Memory>
-    ensures { OnOk result (shown_all found.new.items ≡ shown_all found.old.items ++ in_stage (stage_tree stage.now)) }
+    ensures { OnOk result
+        (shown_all found.new.items ≡ shown_all found.old.items ++ in_stage (stage_tree stage.now)) }
 {
     match stage {
         Stage::Filter { condition, .. } => add_filter(condition, found),
@@ -108,7 +117,9 @@ fn add_stage<'a>(stage: &'a Stage, found: &mut Vec<Asked<'a>>) -> Result<(), Mem
 
 // Adds the patterns of a query's stages.
 fn add_stages<'a>(stages: &'a Stages, found: &mut Vec<Asked<'a>>) -> Result<(), Memory>
-    ensures { OnOk result (shown_all found.new.items ≡ shown_all found.old.items ++ flat_map in_stage (map stage_tree stages.now)) }
+    ensures { OnOk result
+        (shown_all found.new.items
+        ≡ shown_all found.old.items ++ flat_map in_stage (map stage_tree stages.now)) }
 {
     for stage in stages.as_slice() {
         add_stage(stage, found)?;
@@ -129,5 +140,6 @@ pub fn patterns_of(alloc: Global, query: &Query) -> Result<Vec<Asked<'_>>, Memor
 /// The patterns of a query that was read from a text stand in the text's order: a law, which the clause of `check` on
 /// what its maker was asked for rests on.
 pub fn patterns_in_order()
-    ensures { (depth : ℕ) (text : List ℕ) (q : QueryTree) → Reads depth text q → Ascends (asked_patterns q) }
+    ensures { (depth : ℕ) (text : List ℕ) (q : QueryTree) → Reads depth text q
+        → Ascends (asked_patterns q) }
 {}

@@ -47,7 +47,8 @@ fn make_next<P: PatternMaker>(
     made: &mut Vec<Pattern>,
 ) -> Result<Option<TypeError>, Memory>
     ensures step { (calls : List Call) × CallsLead P.makes maker.old calls maker.new
-        × MatchResult result (λ now. Step (shown asked.entry) first made.old.items now made.new.items calls)
+        × MatchResult result
+        (λ now. Step (shown asked.entry) first made.old.items now made.new.items calls)
         (λ _. GoesNoneBefore first asked.entry.at × (refused_in calls ≡ [])) }
 {
     if goes_before(first, asked.at) {
@@ -109,7 +110,8 @@ pub fn check<P: PatternMaker>(
     ensures after_made { IfErr result (ComesAfterMade (query_tree query)) }
     // The maker was asked for just the patterns before the refusal, in the text's order, and for the refused one.
     ensures asked { (calls : List Call) × CallsLead P.makes maker.old calls maker.new
-        × MatchResult result (λ c. calls ≡ made_calls c.patterns) (λ e. AskedUpTo (query_tree query) e calls) }
+        × MatchResult result (λ c. calls ≡ made_calls c.patterns)
+        (λ e. AskedUpTo (query_tree query) e calls) }
     // And it refused just the pattern that is blamed for its size, if one is.
     ensures blamed { (refused : List (List ℕ)) × RefusesOnly P.makes maker.old maker.new refused
         × (Ascends (asked_patterns (query_tree query))

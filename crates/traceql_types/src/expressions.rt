@@ -54,7 +54,8 @@ impl TypeError {
 
 // The earlier of two refusals.
 pub(crate) fn earlier(left: Option<TypeError>, right: Option<TypeError>) -> Option<TypeError>
-    ensures { (xs ys : List Refusal) → IsFirstOf xs left → IsFirstOf ys right → IsFirstOf (xs ++ ys) result }
+    ensures { (xs ys : List Refusal) → IsFirstOf xs left → IsFirstOf ys right
+        → IsFirstOf (xs ++ ys) result }
 {
     match (left, right) {
         (None, _) => right,

@@ -206,8 +206,10 @@ impl PatternMaker for ScriptedMaker {
 
 /// The counts of both makers tell how many texts they refused: a law.
 pub fn refusals_are_counted()
-    ensures regex { (old new : ℕ) (texts : List (List ℕ)) → old < 2 ^ 64 → RefusesOnly RegexCall old new texts
+    ensures regex { (old new : ℕ) (texts : List (List ℕ)) → old < 2 ^ 64
+        → RefusesOnly RegexCall old new texts
         → new ≡ min (old + length texts) (2 ^ 64 - 1) }
     ensures scripted { (old new : Script) (texts : List (List ℕ)) → old.refusals < 2 ^ 64
-        → RefusesOnly ScriptedCall old new texts → new.refusals ≡ min (old.refusals + length texts) (2 ^ 64 - 1) }
+        → RefusesOnly ScriptedCall old new texts
+        → new.refusals ≡ min (old.refusals + length texts) (2 ^ 64 - 1) }
 {}

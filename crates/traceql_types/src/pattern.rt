@@ -35,7 +35,8 @@ impl Pattern {
     /// What searches for this pattern in texts: a match of it is of the whole text.
     pub fn matcher(&self, alloc: Global) -> Result<Matcher<'_>, Memory>
         ensures pattern { IfOk result (λ m. matcher_pattern m ≡ pattern_re self.now) }
-        ensures read { IfOk result (λ m. IsReadAs (whole_text (pattern_text self.now)) (matcher_pattern m)) }
+        ensures read { IfOk result
+            (λ m. IsReadAs (whole_text (pattern_text self.now)) (matcher_pattern m)) }
     {
         let matcher = self.regex.matcher(alloc)?;
         Ok(matcher)

@@ -61,7 +61,9 @@ impl<'q, 'a> EvalContext<'q, 'a> {
 
     /// What an expression is for a span of the trace, looked at where it stands.
     pub fn evaluate(&mut self, expr: &'a FieldExpr, span: &'a Span) -> Result<ValueRef<'a>, Memory>
-        ensures value { IfOk result (λ v. ref_value v ≡ value_of (context_patterns self.old) (context_rows self.old) span.now (tree expr.now)) }
+        ensures value { IfOk result
+            (λ v. ref_value v ≡ value_of (context_patterns self.old)
+            (context_rows self.old) span.now (tree expr.now)) }
         ensures same { IsSame self.old self.new }
     {
         evaluate(
@@ -76,7 +78,9 @@ impl<'q, 'a> EvalContext<'q, 'a> {
 
     /// What an expression is for a span of the trace, as a value of its own.
     pub fn value(&mut self, expr: &FieldExpr, span: &Span) -> Result<Value, Memory>
-        ensures value { IfOk result (λ v. v ≡ value_of (context_patterns self.old) (context_rows self.old) span.now (tree expr.now)) }
+        ensures value { IfOk result
+            (λ v. v ≡ value_of (context_patterns self.old) (context_rows self.old) span.now
+            (tree expr.now)) }
         ensures same { IsSame self.old self.new }
     {
         let found = evaluate(
@@ -92,7 +96,9 @@ impl<'q, 'a> EvalContext<'q, 'a> {
 
     /// Whether a condition is true of a span of the trace.
     pub fn is_so(&mut self, expr: &FieldExpr, span: &Span) -> Result<bool, Memory>
-        ensures value { IfOk result (λ b. b ≡ is_so (context_patterns self.old) (context_rows self.old) span.now (tree expr.now)) }
+        ensures value { IfOk result
+            (λ b. b ≡ is_so (context_patterns self.old) (context_rows self.old) span.now
+            (tree expr.now)) }
         ensures same { IsSame self.old self.new }
     {
         let found = evaluate(
@@ -152,7 +158,9 @@ pub fn field_value(
     span: u64,
 ) -> Result<Value, Memory>
     requires { span < length trace.now }
-    ensures { IfOk result (λ v. IfSome (slice_get trace.now span) (λ row. v ≡ value_of checked.now.patterns trace.now row.span (tree expr.now))) }
+    ensures { IfOk result
+        (λ v. IfSome (slice_get trace.now span)
+        (λ row. v ≡ value_of checked.now.patterns trace.now row.span (tree expr.now))) }
 {
     let rows = trace.as_slice();
     let mut matchers = Matchers::of(alloc, checked)?;

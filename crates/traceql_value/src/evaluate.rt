@@ -70,7 +70,8 @@ pub(crate) fn evaluate<'s>(
     recursion: u32,
 ) -> Result<ValueRef<'s>, Memory>
     ensures value { IfOk result (λ v.
-        ref_value v ≡ value_of matchers.old.patterns.now trace.now.rows.now span.now (tree expr.now)) }
+        ref_value v ≡ value_of matchers.old.patterns.now trace.now.rows.now span.now
+        (tree expr.now)) }
     ensures same { matchers.new.patterns.now ≡ matchers.old.patterns.now }
 {
     match expr {
@@ -119,7 +120,8 @@ fn evaluate_left<'s>(
     recursion: u32,
 ) -> Result<ValueRef<'s>, Memory>
     ensures value { IfOk result (λ v.
-        ref_value v ≡ value_of matchers.old.patterns.now trace.now.rows.now span.now (tree expr.now)) }
+        ref_value v ≡ value_of matchers.old.patterns.now trace.now.rows.now span.now
+        (tree expr.now)) }
     ensures same { matchers.new.patterns.now ≡ matchers.old.patterns.now }
 {
     match recursion.checked_sub(1) {
@@ -140,9 +142,11 @@ fn finish<'s>(
     span: &'s Span,
     recursion: u32,
 ) -> Result<ValueRef<'s>, Memory>
-    ensures value { IfOk result (λ v. ref_value v ≡ apply_binary pending.entry.op pending.entry.nil_left
+    ensures value { IfOk result
+        (λ v. ref_value v ≡ apply_binary pending.entry.op pending.entry.nil_left
         (is_literal_nil (tree pending.entry.right.now)) (ref_value left.entry)
-        (value_of matchers.old.patterns.now trace.now.rows.now span.now (tree pending.entry.right.now))) }
+        (value_of matchers.old.patterns.now trace.now.rows.now span.now
+        (tree pending.entry.right.now))) }
     ensures same { matchers.new.patterns.now ≡ matchers.old.patterns.now }
 {
     let Pending {
@@ -194,7 +198,8 @@ fn evaluate_chain<'s>(
     span: &'s Span,
 ) -> Result<ValueRef<'s>, Memory>
     ensures value { IfOk result (λ v.
-        ref_value v ≡ value_of matchers.old.patterns.now trace.now.rows.now span.now (tree expr.now)) }
+        ref_value v ≡ value_of matchers.old.patterns.now trace.now.rows.now span.now
+        (tree expr.now)) }
     ensures same { matchers.new.patterns.now ≡ matchers.old.patterns.now }
 {
     let (first, pending) = unchain(alloc, expr)?;

@@ -47,7 +47,8 @@ fn add_search<'a>(
     searches: &mut Vec<Search<'a>>,
     numbers: &mut BTreeMap<&'a str, usize>,
 ) -> Result<(), Memory>
-    ensures { OnOk result ((ps : List Pattern) → AreSearches ps (all_known searches.old.items) numbers.old
+    ensures { OnOk result ((ps : List Pattern)
+        → AreSearches ps (all_known searches.old.items) numbers.old
         → AreSearches (ps ++ pattern.now ∷ []) (all_known searches.new.items) numbers.new) }
 {
     let string = pattern.as_str();
@@ -150,7 +151,9 @@ impl<'a> Matchers<'a> {
 
     // Whether a text matches, or doesn't where that is asked for.
     fn matches(&mut self, at: u64, string: &str, negated: bool, text: &str) -> bool
-        ensures value { result ≡ (if negated then not (matches self.old.patterns.now string.now text.now) else matches self.old.patterns.now string.now text.now) }
+        ensures value { result
+            ≡ (if negated then not
+            (matches self.old.patterns.now string.now text.now) else matches self.old.patterns.now string.now text.now) }
         ensures same { self.new.patterns.now ≡ self.old.patterns.now }
     {
         let number = self.number_of(at, string);
@@ -166,7 +169,8 @@ impl<'a> Matchers<'a> {
         negated: bool,
         value: &ValueRef<'_>,
     ) -> bool
-        ensures value { result ≡ matched self.old.patterns.now string.now negated (ref_value value.now) }
+        ensures value { result
+            ≡ matched self.old.patterns.now string.now negated (ref_value value.now) }
         ensures same { self.new.patterns.now ≡ self.old.patterns.now }
     {
         match value {

@@ -139,7 +139,8 @@ fn tests_nil(op: Comparison, value: &ValueRef<'_>) -> bool
 /// What `&&` and `||` give by their left side alone: the right side doesn't matter then.
 pub(crate) fn decide_by_left(op: BinaryOp, left: &ValueRef<'_>) -> Option<bool>
     ensures decision { result ≡ decide_by_left op (ref_value left.now) }
-    ensures value { IfSome result (λ truth. (nil_left nil_right : Bool) (right : Value) → apply_binary op nil_left nil_right (ref_value left.now) right ≡ Value.Truth truth) }
+    ensures value { IfSome result (λ truth. (nil_left nil_right : Bool) (right : Value)
+        → apply_binary op nil_left nil_right (ref_value left.now) right ≡ Value.Truth truth) }
 {
     match op {
         BinaryOp::And if !is_true(left) => Some(false),
@@ -156,7 +157,8 @@ pub(crate) fn apply_binary(
     left: &ValueRef<'_>,
     right: &ValueRef<'_>,
 ) -> Value
-    ensures { result ≡ apply_binary op nil_left nil_right (ref_value left.now) (ref_value right.now) }
+    ensures { result ≡ apply_binary op nil_left nil_right (ref_value left.now)
+        (ref_value right.now) }
 {
     match (op, nil_left, nil_right) {
         (BinaryOp::Compare(comparison), true, _) => Value::Truth(tests_nil(comparison, right)),

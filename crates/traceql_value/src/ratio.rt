@@ -92,8 +92,10 @@ impl Ratio {
 
     /// The product. `None` where it is outside of the bounds.
     pub fn mul(self, other: Ratio) -> Option<Ratio>
-        ensures value { IfSome result (IsRatioOf (self.numerator *ℤ other.numerator) (under self other)) }
-        ensures nil { IfNone result (NoneIsQuotient (self.numerator *ℤ other.numerator) (under self other)) }
+        ensures value { IfSome result
+            (IsRatioOf (self.numerator *ℤ other.numerator) (under self other)) }
+        ensures nil { IfNone result
+            (NoneIsQuotient (self.numerator *ℤ other.numerator) (under self other)) }
         ensures exact { result ≡ product_of self other }
     {
         let up = i128::from(self.numerator) * i128::from(other.numerator);
@@ -120,7 +122,8 @@ impl Ratio {
     /// The difference. `None` where it is outside of the bounds.
     pub fn sub(self, other: Ratio) -> Option<Ratio>
         ensures value { IfSome result (IsRatioOf (over_difference self other) (under self other)) }
-        ensures nil { IfNone result (NoneIsQuotient (over_difference self other) (under self other)) }
+        ensures nil { IfNone result
+            (NoneIsQuotient (over_difference self other) (under self other)) }
         ensures exact { result ≡ difference_of self other }
     {
         let left = widened(self.numerator, other.denominator);
@@ -134,8 +137,12 @@ impl Ratio {
     /// The quotient. `None` where it is outside of the bounds, or the other number is 0.
     pub fn div(self, other: Ratio) -> Option<Ratio>
         ensures zero { other.numerator ≡ pos 0 → IsNone result }
-        ensures value { IfSome result (IsRatioOf (self.numerator *ℤ pos other.denominator) (other.numerator *ℤ pos self.denominator)) }
-        ensures nil { other.numerator ≢ pos 0 → IfNone result (NoneIsQuotient (self.numerator *ℤ pos other.denominator) (other.numerator *ℤ pos self.denominator)) }
+        ensures value { IfSome result
+            (IsRatioOf (self.numerator *ℤ pos other.denominator)
+            (other.numerator *ℤ pos self.denominator)) }
+        ensures nil { other.numerator ≢ pos 0
+            → IfNone result (NoneIsQuotient (self.numerator *ℤ pos other.denominator)
+            (other.numerator *ℤ pos self.denominator)) }
         ensures exact { result ≡ quotient_of self other }
     {
         if other.numerator == 0 {
@@ -148,7 +155,8 @@ impl Ratio {
 
     /// The remainder of whole numbers, with the sign of the first. `None` where one isn't whole, or the other is 0.
     pub fn rem(self, other: Ratio) -> Option<Ratio>
-        ensures value { SomeIff result (HaveRemainder self other) (whole_fraction (int_rem self.numerator other.numerator)) }
+        ensures value { SomeIff result (HaveRemainder self other)
+            (whole_fraction (int_rem self.numerator other.numerator)) }
         ensures ratio { IfSome result IsRatio }
         ensures exact { result ≡ remainder_of self other }
     {
@@ -161,7 +169,8 @@ impl Ratio {
     /// The power of whole numbers; the power 0 is 1. `None` where one isn't whole, where the exponent is negative, or
     /// where the power is outside of the bounds.
     pub fn pow(self, other: Ratio) -> Option<Ratio>
-        ensures value { SomeIff result (HavePower self other × FitsSigned w64 (power_of self other)) (whole_fraction (power_of self other)) }
+        ensures value { SomeIff result (HavePower self other × FitsSigned w64 (power_of self other))
+            (whole_fraction (power_of self other)) }
         ensures ratio { IfSome result IsRatio }
         ensures exact { result ≡ power_within self other }
     {

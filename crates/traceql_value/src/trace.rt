@@ -152,7 +152,8 @@ impl<'a> Trace<'a> {
 
 // What an intrinsic that is an id is, in hexadecimal.
 fn parent_id<'s>(alloc: Global, parent: &Option<SpanId>) -> Result<ValueRef<'s>, Memory>
-    ensures { IfOk result (λ v. ref_value v ≡ option_map_or (λ p. Value.Text (encode_lower p.0)) parent.now Value.Nil) }
+    ensures { IfOk result (λ v.
+        ref_value v ≡ option_map_or (λ p. Value.Text (encode_lower p.0)) parent.now Value.Nil) }
 {
     match parent {
         Some(parent) => hexadecimal(alloc, parent.0.as_slice()),

@@ -26,7 +26,8 @@ fn trace_order(left: &Row, right: &Row) -> Ordering
 
 // The root among a row and the rows after it.
 fn choose_root<'a>(row: &'a Row, rest: Option<&'a Row>) -> Option<&'a Row>
-    ensures { option_map (λ r. r.now) result ≡ choose_root row.now.span.parent row.now (option_map (λ r. r.now) rest.entry) }
+    ensures { option_map (λ r. r.now) result
+        ≡ choose_root row.now.span.parent row.now (option_map (λ r. r.now) rest.entry) }
 {
     if row.span.parent.is_some() {
         return rest;
