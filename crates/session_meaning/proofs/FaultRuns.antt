@@ -170,9 +170,9 @@ ask_none : (sure : Bool) (request : Request) → BlamesNone (Asks sure request)
 ask_none sure request before after items replies far (inl nothing) = ap (list_any blames_disk) nothing.0.0
 ask_none sure request before after items replies far (inr (reply, is, told, answered, clock)) = ap (list_any blames_disk) is
 
-pushed_none : (sure : Bool) (line : List ℕ) → BlamesNone (AsksLine sure line)
-pushed_none sure line before after items replies far (inl nothing) = ap (list_any blames_disk) nothing.0.0
-pushed_none sure line before after items replies far (inr (moment, item, reply, next, asks, is, told, answered, clock)) =
+line_pushed_none : (sure : Bool) (line : List ℕ) → BlamesNone (AsksLine sure line)
+line_pushed_none sure line before after items replies far (inl nothing) = ap (list_any blames_disk) nothing.0.0
+line_pushed_none sure line before after items replies far (inr (moment, item, reply, next, asks, is, told, answered, clock)) =
     ap (list_any blames_disk) is ∙ add_none item [] (push_asked_none moment line item asks) refl
 
 small_none : (sure : Bool) → BlamesNone (KeptSmall sure)
@@ -184,7 +184,7 @@ lines_none sure [] before after items replies far nothing = ap (list_any blames_
 lines_none sure ([] ∷ lines) before after items replies far h = lines_none sure lines before after items replies far h
 lines_none sure ((b ∷ bs) ∷ lines) before after items replies far h =
     then_none (Then (AsksLine sure (b ∷ bs)) (KeptSmall sure)) (LinesPushed sure lines)
-    (then_none (AsksLine sure (b ∷ bs)) (KeptSmall sure) (pushed_none sure (b ∷ bs)) (small_none sure)) (lines_none sure lines) before after items replies far h
+    (then_none (AsksLine sure (b ∷ bs)) (KeptSmall sure) (line_pushed_none sure (b ∷ bs)) (small_none sure)) (lines_none sure lines) before after items replies far h
 
 compacts_none : (sure : Bool) → BlamesNone (Compacts sure)
 compacts_none sure before after [] replies far h = refl

@@ -220,13 +220,13 @@ module _ (sure : Bool) where
 
   peel_lines : (pushed later : List (List ℕ)) → Peels (LinesPushed sure pushed) (from_lines (pushed ++ later)) (from_lines later)
   peel_lines [] later told to_tell items replies first last left h = inr (stand first told, [], items, [], replies, refl, refl, (refl, refl, refl), h)
-  peel_lines ([] ∷ pushed) later = peel_lines pushed later
-  peel_lines ((b ∷ bs) ∷ pushed) later =
+  peel_lines ([] ∷ pushed) later told to_tell items replies first last left h = peel_lines pushed later told to_tell items replies first last left h
+  peel_lines ((b ∷ bs) ∷ pushed) later told to_tell items replies first last left h =
       peel_then (Then (AsksLine sure (b ∷ bs)) (KeptSmall sure)) (LinesPushed sure pushed) (from_lines (((b ∷ bs) ∷ pushed) ++ later)) (from_lines (pushed ++ later)) (from_lines later)
       (more_weight pushed later)
       (peel_then (AsksLine sure (b ∷ bs)) (KeptSmall sure) (from_lines (((b ∷ bs) ∷ pushed) ++ later)) (keep_small ∷ from_lines (pushed ++ later)) (from_lines (pushed ++ later)) (omega arith)
       (peel_line (b ∷ bs) (keep_small ∷ from_lines (pushed ++ later))) (peel_small (from_lines (pushed ++ later))))
-      (peel_lines pushed later)
+      (peel_lines pushed later) told to_tell items replies first last left h
 
   -- ---- the end
 

@@ -137,10 +137,10 @@ module _ (sure : Bool) where
   has_ended before after items replies (inr (m, xs, ys, rs, ss, items_are, replies_are, cuts, inl halt)) = absurd (not_stopped halt.1)
   has_ended before after items replies (inr (m, xs, ys, rs, ss, items_are, replies_are, cuts, inr (n, us, vs, ts, ws, ys_are, ss_are, flushes, inl halt))) = absurd (not_stopped halt.1)
   has_ended before after items replies (inr (m, xs, ys, rs, ss, items_are, replies_are, cuts, inr (n, us, vs, ts, ws, ys_are, ss_are, flushes,
-      inr (p, as, bs, cs, ds, vs_are, ws_are, compacts, reclaims)))) =
+      inr (p, es, bs, cs, ds, vs_are, ws_are, compacts, reclaims)))) =
       let cut = has_asked CutAll before m xs rs cuts in
       let flush = has_asked Flush m n us ts flushes in
-      let h = has_compacted n p as cs compacts in
+      let h = has_compacted n p es cs compacts in
       let empties = has_asked Reclaim p after bs ds reclaims in record {
         earlier = [];
         told_earlier = [];
@@ -152,7 +152,7 @@ module _ (sure : Bool) where
         emptied = empties.0;
         asked = items_are ∙ joined_lists xs ys (Ok CutAll ∷ []) (Ok Flush ∷ (h.compactions ++ Ok Compact ∷ Ok Reclaim ∷ [])) cut.1
             (ys_are ∙ joined_lists us vs (Ok Flush ∷ []) (h.compactions ++ Ok Compact ∷ Ok Reclaim ∷ []) flush.1
-            (vs_are ∙ joined_lists as bs (h.compactions ++ Ok Compact ∷ []) (Ok Reclaim ∷ []) h.asked empties.1 ∙ append_assoc h.compactions (Ok Compact ∷ []) (Ok Reclaim ∷ [])));
+            (vs_are ∙ joined_lists es bs (h.compactions ++ Ok Compact ∷ []) (Ok Reclaim ∷ []) h.asked empties.1 ∙ append_assoc h.compactions (Ok Compact ∷ []) (Ok Reclaim ∷ [])));
         told = replies_are ∙ joined_replies rs ss (cut.0 ∷ []) (flush.0 ∷ (h.joined ++ h.last ∷ empties.0 ∷ [])) cut.2
             (ss_are ∙ joined_replies ts ws (flush.0 ∷ []) (h.joined ++ h.last ∷ empties.0 ∷ []) flush.2
             (ws_are ∙ joined_replies cs ds (h.joined ++ h.last ∷ []) (empties.0 ∷ []) h.told empties.2 ∙ append_assoc h.joined (h.last ∷ []) (empties.0 ∷ [])));
