@@ -6,7 +6,7 @@ use Rattle.std.specs.Str.{bytes_eq, is_utf8}
 use Rattle.std.specs.List.{list_any}
 use Rattle.command_words.specs.Commands.{Alone, Command, Ingest as ingest, Session as session, Spells}
 use Rattle.disk_model.specs.Counts.{RoseBy}
-use Rattle.io_edges.specs.Lines.{line_limit}
+use Rattle.io_edges.specs.Lines.{line_limit, lines}
 use Rattle.otlp_spans.specs.Fields.{trace_id_of}
 use Rattle.otlp_spans.specs.Reading.{Given, NoJson, TooManySpans, WrongForm, reading_of}
 use Rattle.otlp_spans.specs.Reading as otlp
@@ -24,7 +24,8 @@ use Rattle.session_text.specs.MetricsLines.{MetricsLine, metrics_parts}
 use Rattle.session_text.specs.Options.{SearchLine, search_parts}
 use Rattle.session_text.specs.Requests.{Answers, AsksAt, AsksPush, Line, alone, buckets_of, line_of, measured, metrics_with, other_line, plain, push_of, push_with, pushed, request_by, search_with, searched, trace_with, with_id}
 use Rattle.session_text.specs.Searches.{of_check, of_parse}
-use Rattle.session_meaning.specs.declared.ending.Ending.TheVariants.{NotOpened}
+use Rattle.session_meaning.specs.declared.ending.Ending.{Ending}
+use Rattle.session_meaning.specs.declared.ending.Ending.TheVariants.{Answered, BadWords, NotOpened, NotStore, ReadFault, Refused, Spent, Starved, WriteFault}
 use Rattle.session_meaning.specs.Asked.{AreAsked, after_moment}
 use Rattle.session_meaning.specs.At.{At}
 use Rattle.session_meaning.specs.Causes.{blames_disk, disk_faults, is_disk_fault}
@@ -177,7 +178,7 @@ line_pushed_none sure line before after items replies far (inr (moment, item, re
 
 small_none : (sure : Bool) → BlamesNone (KeptSmall sure)
 small_none sure before after items replies far (inl few) = ap (list_any blames_disk) few.1.0
-small_none sure before after items replies far (inr many) = then_none (Asks sure CutAll) (Asks sure Flush) (ask_none sure CutAll) (ask_none sure Flush) before after items replies far many.1
+small_none sure before after items replies far (inr many) = then_none (Asks sure request.CutAll) (Asks sure request.Flush) (ask_none sure request.CutAll) (ask_none sure request.Flush) before after items replies far many.1
 
 lines_none : (sure : Bool) (lines : List (List ℕ)) → BlamesNone (LinesPushed sure lines)
 lines_none sure [] before after items replies far nothing = ap (list_any blames_disk) nothing.0
@@ -198,9 +199,9 @@ ingest_none : (sure : Bool) (lines : List (List ℕ)) → BlamesNone (Ingests su
 ingest_none sure lines =
     then_none (KeptSmall sure) (Then (LinesPushed sure lines) (AtTheEnd sure)) (small_none sure)
     (then_none (LinesPushed sure lines) (AtTheEnd sure) (lines_none sure lines)
-    (then_none (Asks sure CutAll) (Then (Asks sure Flush) (Then (Compacts sure) (Asks sure Reclaim))) (ask_none sure CutAll)
-    (then_none (Asks sure Flush) (Then (Compacts sure) (Asks sure Reclaim)) (ask_none sure Flush)
-    (then_none (Compacts sure) (Asks sure Reclaim) (compacts_none sure) (ask_none sure Reclaim)))))
+    (then_none (Asks sure request.CutAll) (Then (Asks sure request.Flush) (Then (Compacts sure) (Asks sure request.Reclaim))) (ask_none sure request.CutAll)
+    (then_none (Asks sure request.Flush) (Then (Compacts sure) (Asks sure request.Reclaim)) (ask_none sure request.Flush)
+    (then_none (Compacts sure) (Asks sure request.Reclaim) (compacts_none sure) (ask_none sure request.Reclaim)))))
 
 pushes_none : (sure : Bool) (lines : List (List ℕ)) (before after : Stand) (items : List Item) (replies : List Reply) → Pushes sure lines before items replies after → list_any blames_disk items ≡ false
 pushes_none sure lines before after items replies h =

@@ -78,7 +78,7 @@ some_same a b e = cc
 -- The list of an image that stands for a history names a log.
 log_of : (image : Image) (list : ListBody) (rows : List Row) (count : ℕ) → ImageHoldsList image (Some list) → ImageStores image rows count
     → (batches : List (List Span)) × LogHolds image list.segments (first_number list) batches
-log_of image list rows count counts (vacant none empty zero) = let bad : Some list ≡ None = one_list image (Some list) None counts none in absurd cc
+log_of image list rows count counts (vacant listless empty zero) = let bad : Some list ≡ None = one_list image (Some list) None counts listless in absurd cc
 log_of image list rows count counts (filled body blocks batches holds one rows_are count_is) =
     let same : body ≡ list = some_same body list (one_list image (Some body) (Some list) holds.listed counts) in
     (batches, subst (λ (l : ListBody). LogHolds image l.segments (first_number l) batches) same holds.logged)
