@@ -27,7 +27,6 @@ use Rattle.session_text.specs.Searches.{of_check, of_parse}
 use Rattle.session_meaning.specs.declared.ending.Ending.{Ending}
 use Rattle.session_meaning.specs.declared.ending.Ending.TheVariants.{Answered, BadWords, NotOpened, NotStore, ReadFault, Refused, Spent, Starved, WriteFault}
 use Rattle.session_meaning.specs.Asked.{AreAsked, after_moment}
-use Rattle.session_meaning.specs.At.{At}
 use Rattle.session_meaning.specs.Causes.{blames_disk, disk_faults, is_disk_fault}
 use Rattle.session_meaning.specs.Ingest.{Asks, AsksLine, AtTheEnd, Compacts, Far, Ingests, KeptSmall, LinesPushed, Part, Pushes, Stand, Then}
 use Rattle.session_meaning.specs.Ingest.Far.{stopped, whole}

@@ -1,5 +1,5 @@
 -- Whoever follows the duties of an ingest asks what an ingest asks.
-use Rattle.std.proofs.Common.{◌≡◌, ◌⊎◌, inl, inr, ◌∙◌, ℕ, ◌+◌, ◌-◌, ◌<◌, ◌≤◌, suc, Bool, true, false, List, [], ◌∷◌, ◌++◌, Option, Ok, refl, sym, ap, subst, arith, append_assoc, append-nil, eqb-true}
+use Rattle.std.proofs.Common.{◌≡◌, ◌⊎◌, inl, inr, ◌∙◌, ℕ, ◌+◌, ◌-◌, ◌<◌, ◌≤◌, Bool, true, false, List, [], ◌∷◌, ◌++◌, Option, Ok, refl, sym, ap, subst, arith, append_assoc, append-nil, eqb-true}
 use Rattle.std.specs.Prelude.{◌==◌, nat_le, if◌then◌else◌}
 use Rattle.session_text.specs.declared.reply.Reply.{Reply}
 use Rattle.session_text.specs.declared.request.Request.{Request}
@@ -124,7 +124,7 @@ module _ (sure : Bool) where
 
   peel_ask : (request : Request) (rest : List Duty) → Peels (Asks sure request) (ask request ∷ rest) rest
   peel_ask request rest told to_tell [] replies first last left (none, same, found, clock) =
-      inl (inl (idle told to_tell replies first last none same clock, refl), elim found [ | inl is ↦ size is | inr is ↦ size is ])
+      inl (inl (idle told to_tell replies first last none same clock, refl), elim found [ inl is ↦ size is | inr is ↦ size is ])
     where
       size : left ≡ ask request ∷ rest → 1 + weight rest ≤ weight left
       size is = let all = ap weight is in omega (arith, all)
@@ -144,7 +144,7 @@ module _ (sure : Bool) where
 
   peel_line : (line : List ℕ) (rest : List Duty) → Peels (AsksLine sure line) (push line ∷ rest) rest
   peel_line line rest told to_tell [] replies first last left (none, same, found, clock) =
-      inl (inl (idle told to_tell replies first last none same clock, refl), elim found [ | inl is ↦ size is | inr is ↦ size is ])
+      inl (inl (idle told to_tell replies first last none same clock, refl), elim found [ inl is ↦ size is | inr is ↦ size is ])
     where
       size : left ≡ push line ∷ rest → 1 + weight rest ≤ weight left
       size is = let all = ap weight is in omega (arith, all)

@@ -1,5 +1,5 @@
 -- What an ingest asks is asked as in a session, and what it asks last.
-use Rattle.std.proofs.Common.{◌≡◌, ◌⊎◌, inl, inr, ◌∙◌, ℕ, Bool, true, false, List, [], ◌∷◌, ◌++◌, Ok, refl, sym, ap, subst, append_assoc}
+use Rattle.std.proofs.Common.{◌≡◌, inl, inr, ◌∙◌, ℕ, Bool, false, List, [], ◌∷◌, ◌++◌, Ok, refl, sym, ap, subst, append_assoc}
 use Rattle.session_text.specs.declared.reply.Reply.{Reply}
 use Rattle.session_text.specs.declared.request.Request.{Request}
 use Rattle.session_text.specs.declared.request.Request.TheVariants.{Compact, CutAll, Flush, Reclaim}
@@ -136,8 +136,27 @@ module _ (sure : Bool) where
   has_ended before after items replies (inl halt) = absurd (not_stopped halt.1)
   has_ended before after items replies (inr (m, xs, ys, rs, ss, items_are, replies_are, cuts, inl halt)) = absurd (not_stopped halt.1)
   has_ended before after items replies (inr (m, xs, ys, rs, ss, items_are, replies_are, cuts, inr (n, us, vs, ts, ws, ys_are, ss_are, flushes, inl halt))) = absurd (not_stopped halt.1)
-  has_ended before after items replies (inr (m, xs, ys, rs, ss, items_are, replies_are, cuts, inr (n, us, vs, ts, ws, ys_are, ss_are, flushes,
-      inr (p, es, bs, cs, ds, vs_are, ws_are, compacts, reclaims)))) =
+  has_ended before after items replies (inr (
+    m,
+    xs,
+    ys,
+    rs,
+    ss,
+    items_are,
+    replies_are,
+    cuts,
+    inr (
+      n,
+      us,
+      vs,
+      ts,
+      ws,
+      ys_are,
+      ss_are,
+      flushes,
+      inr (p, es, bs, cs, ds, vs_are, ws_are, compacts, reclaims),
+    ),
+  )) =
       let cut = has_asked CutAll before m xs rs cuts in
       let flush = has_asked Flush m n us ts flushes in
       let h = has_compacted n p es cs compacts in

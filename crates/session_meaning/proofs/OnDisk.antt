@@ -13,7 +13,7 @@ use Rattle.block_list.specs.Slots.{ImageHoldsList}
 use Rattle.block_list.specs.declared.body.ListBody.{ListBody}
 use Rattle.store_model.specs.History.{History, count_of}
 use Rattle.store_model.specs.Sound.{uses}
-use Rattle.store_model.specs.State.{Block, Segment, State}
+use Rattle.store_model.specs.State.{State}
 use Rattle.store_model.specs.Step.{Machine}
 use Rattle.store_images.specs.Log.{LogHolds}
 use Rattle.store_images.specs.Stored.{ImageStandsFor, ImageStores, IsTidy, first_number, named_files, next_file_of}
