@@ -13,10 +13,11 @@ use Rattle.store_state.specs.declared.errors.PushError.{PushError}
 use Rattle.store_state.specs.declared.errors.ReclaimError.{ReclaimError}
 use Rattle.store_state.specs.declared.rounds.Round.{Round}
 use Rattle.store_state.specs.declared.rounds.Round.TheVariants.{Did, Nothing, Refused as NotDone}
-use Rattle.client_run.specs.Answers.{compact_reply, cut_reply, flush_reply, pushed_reply, reclaimed_reply}
+use Rattle.client_run.specs.Answers.{asked_of, compact_reply, counted_of, cut_reply, flush_reply, pushed_reply, reclaimed_reply}
 use Rattle.session_meaning.specs.At.{At, IsStep, history_of}
 use Rattle.session_meaning.specs.Pushes.{accepted_entry}
 use Rattle.session_meaning.specs.Session.{IsAnsweredOrRefused, Session}
+use Rattle.session_meaning.proofs.Seen.{found_in, trace_in}
 use Rattle.session_meaning.proofs.Told.{push_numbers, session_grows}
 use Rattle.headline.specs.Headline.{Tells, TellTheHistory, after_reply}
 use Rattle.headline.proofs.Histories.{line_grows}
@@ -57,13 +58,13 @@ item_tells (Ok (request.Push reading moment)) before after r (inl (answer, is, s
     subst (Tells (history_of before) (Ok (request.Push reading moment))) (sym is) (push_tells reading moment before after answer step)
 item_tells (Ok (request.Push reading moment)) before after r (inr bad) = absurd bad
 item_tells (Ok (request.Trace id)) before after r (inl (rows, found, is, still)) =
-    subst (Tells (history_of before) (Ok (request.Trace id))) (sym is) (refl, found (inl refl))
+    subst (Tells (history_of before) (Ok (request.Trace id))) (sym is) (refl, trace_in true id before rows (inl refl) found)
 item_tells (Ok (request.Trace id)) before after r (inr (why, is, cause, still)) = subst (Tells (history_of before) (Ok (request.Trace id))) (sym is) tt
 item_tells (Ok (request.Search s)) before after r (inl (results, found, is, still)) =
-    subst (Tells (history_of before) (Ok (request.Search s))) (sym is) (refl, refl, found (inl refl))
+    subst (Tells (history_of before) (Ok (request.Search s))) (sym is) (refl, refl, found_in true (asked_of s) before results (inl refl) found)
 item_tells (Ok (request.Search s)) before after r (inr (why, is, cause, still)) = subst (Tells (history_of before) (Ok (request.Search s))) (sym is) tt
 item_tells (Ok (request.Metrics m)) before after r (inl (results, series, found, are, is, still)) =
-    subst (Tells (history_of before) (Ok (request.Metrics m))) (sym is) (refl, (results, found (inl refl), are))
+    subst (Tells (history_of before) (Ok (request.Metrics m))) (sym is) (refl, (results, found_in true (counted_of m) before results (inl refl) found, are))
 item_tells (Ok (request.Metrics m)) before after r (inr (why, is, cause, still)) = subst (Tells (history_of before) (Ok (request.Metrics m))) (sym is) tt
 item_tells (Ok (request.Cut moment)) before after r (inl (answer, is, step)) =
     subst (Tells (history_of before) (Ok (request.Cut moment))) (sym is) (cut_tells (history_of before) moment answer)

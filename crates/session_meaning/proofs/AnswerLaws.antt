@@ -4,13 +4,11 @@ use Rattle.std.proofs.Common.{◌≡◌, inl, inr, ℕ, Bool, true, false, List,
 use Rattle.span_types.specs.declared.ids.TraceId.{TraceId}
 use Rattle.span_types.specs.declared.spans.Row.{Row}
 use Rattle.span_types.specs.declared.spans.Span.{Span}
-use Rattle.span_types.proofs.FirstLaws.{firsts_alike}
 use Rattle.query_fanout.specs.Queries.{IsGrown, Sound, TellsOf, is_fault}
 use Rattle.query_fanout.specs.SearchAnswers.{IsSearchAnswer}
 use Rattle.query_fanout.specs.TraceAnswers.{IsTraceAnswer}
 use Rattle.query_fanout.specs.declared.error.QueryError.{QueryError}
 use Rattle.query_fanout.specs.declared.error.QueryError.TheVariants as error
-use Rattle.query_fanout.specs.declared.searching.Asked.{Asked}
 use Rattle.query_fanout.specs.declared.searching.SearchAnswer.{SearchAnswer}
 use Rattle.query_fanout.specs.declared.trace.TraceAnswer.{TraceAnswer}
 use Rattle.search_text.specs.Fields.{printed_fields}
@@ -35,7 +33,6 @@ use Rattle.store_model.specs.Step.{Machine, Step}
 use Rattle.store_model.specs.Told.{AreCounted}
 use Rattle.store_model.proofs.KeepsFirsts as firsts
 use Rattle.store_model.proofs.Outcomes.{kept_by}
-use Rattle.store_images.specs.Stored.{SameFirsts}
 use Rattle.store_state.specs.Replies.{count_reply, push_reply, reclaim_reply}
 use Rattle.store_state.specs.Made.{Call, call}
 use Rattle.store_state.specs.declared.rounds.Refusal.TheVariants as cause
@@ -48,13 +45,13 @@ use Rattle.session_meaning.specs.Answering.{AreItemsAnswered, CallsLead, IsItemA
 use Rattle.session_meaning.specs.At.{At, IsStep, IsStill, IsUnchanged, history_of}
 use Rattle.session_meaning.specs.Causes.{HasQueryCause, is_disk_fault}
 use Rattle.session_meaning.specs.Rounds.{IsTold}
-use Rattle.session_meaning.specs.Session.{IsAnswered, IsAnsweredOrRefused, IsFound, IsSure, Session}
+use Rattle.session_meaning.specs.Session.{AreSeen, IsAnswered, IsAnsweredOrRefused, Session}
 use Rattle.session_meaning.specs.Upkeep.{IsClosed}
 use Rattle.session_meaning.proofs.CutLaws.{cut_closes, cuts_all, cuts_idle}
-use Rattle.session_meaning.proofs.Firsts.{trace_alike}
 use Rattle.session_meaning.proofs.QueryLaws.{Says, asked_says, told_at, told_exactly}
 use Rattle.session_meaning.proofs.ReclaimLaws.{reclaim_closes}
 use Rattle.session_meaning.proofs.RoundLaws.{round_closes, round_keeps}
+use Rattle.session_meaning.proofs.Seen.{all_firsts, all_rows, found_seen, search_over, seen_told, seen_untold, trace_over, trace_seen}
 use Rattle.session_meaning.proofs.RoundSteps.IsBegin.{OfCompaction, OfFlush}
 use Rattle.session_meaning.proofs.Rounds.{compaction_does, flush_does}
 use Rattle.session_meaning.proofs.Steps.{one_step}
@@ -65,21 +62,16 @@ at_same : (before after : At) → after.faults ≡ before.faults → after.machi
 at_same before after faults machine =
     ap (λ (n : ℕ). record { machine = after.machine; faults = n }) faults ∙ ap (λ (m : Machine). record { machine = m; faults = before.faults }) machine
 
--- it isn't sure what a query tells, whatever the blocks hold, but where there is none
-unsure : {T : Type 0} (before : At) → (before.machine.state.blocks ≡ [] → T) → IsSure false before → T
-unsure before have (inl bad) = let no : ⊥ = cc in absurd no
-unsure before have (inr none) = have none
-
 -- ---- a look-up
 
--- What it is told of these rows, which have the first occurrences of the history where the answer is sure.
+-- What it is told of the rows that it sees.
 traced : (told : Bool) (id : TraceId) (before after : At) (r : Reply) (rows : List Row) (answer : TraceAnswer) → r ≡ trace_reply (Ok answer) → IsStill before after
-    → (IsSure told before → SameFirsts rows (history_rows (history_of before))) → IsTraceAnswer id (count_of (history_of before)) rows answer
+    → AreSeen told before rows → IsTraceAnswer id (count_of (history_of before)) rows answer
     → IsAnsweredOrRefused told (Ok (request.Trace id)) before r after
-traced told id before after r rows answer is still same tells =
+traced told id before after r rows answer is still are tells =
     inl (
       answer.rows,
-      (λ sure. trace_alike id rows (history_rows (history_of before)) answer.rows (same sure) tells.firsts),
+      trace_seen told id (count_of (history_of before)) before rows answer are tells,
       is ∙ ap (λ (n : ℕ). Traced n answer.rows) tells.count,
       still,
     )
@@ -89,12 +81,13 @@ refused : (told : Bool) (id : TraceId) (before after : At) (r : Reply) (why : Re
 refused told id before after r why is holds still = inr (why, is, holds, still)
 
 -- Whatever the blocks hold.
-trace_means : (id : TraceId) (before after : At) (r : Reply) (answer : Result TraceAnswer QueryError) → r ≡ trace_reply answer → IsUnchanged (is_fault answer) before after
+trace_means : (id : TraceId) (before after : At) (r : Reply) (answer : Result TraceAnswer QueryError) → Agrees before.machine → r ≡ trace_reply answer → IsUnchanged (is_fault answer) before after
     → Says (IsTraceAnswer id) answer before after → IsAnsweredOrRefused false (Ok (request.Trace id)) before r after
-trace_means id before after r (Ok answer) is still (rows, same, tells) = traced false id before after r rows answer is still (unsure before same) tells
-trace_means id before after r (Err error.Fault) is still rose = refused false id before after r DiskFault is rose still
-trace_means id before after r (Err (error.NotBlock file at)) is still among = refused false id before after r (Round (cause.NotBlock file at)) is (refl, among) still
-trace_means id before after r (Err error.Memory) is still any = refused false id before after r Memory is tt still
+trace_means id before after r (Ok answer) agrees is still (outside, more, moved, none, tells) =
+    traced false id before after r (outside ++ more) answer is still (seen_untold before outside more agrees moved none) tells
+trace_means id before after r (Err error.Fault) agrees is still rose = refused false id before after r DiskFault is rose still
+trace_means id before after r (Err (error.NotBlock file at)) agrees is still among = refused false id before after r (Round (cause.NotBlock file at)) is (refl, among) still
+trace_means id before after r (Err error.Memory) agrees is still any = refused false id before after r Memory is tt still
 
 same_traced : (a b : ℕ) (rows more : List Row) → Traced a rows ≡ Traced b more → (a ≡ b) × (rows ≡ more)
 same_traced a b rows more e = (cc, cc)
@@ -103,43 +96,37 @@ same_trace : (a b : TraceAnswer) → a.as_of ≡ b.as_of → a.rows ≡ b.rows �
 same_trace a b as_of rows = ap (λ (n : ℕ). record { as_of = n; rows = a.rows }) as_of ∙ ap (λ (rs : List Row). record { as_of = b.as_of; rows = rs }) rows
 
 -- Where what they hold is told.
-trace_told : (id : TraceId) (before after : At) (later : History) (grows : IsGrown (history_of before) later) (r : Reply) (answer other : Result TraceAnswer QueryError) → r ≡ trace_reply answer → IsUnchanged (is_fault answer) before after
+trace_told : (id : TraceId) (before after : At) (later : History) (grows : IsGrown (history_of before) later) (r : Reply) (answer other : Result TraceAnswer QueryError) → Agrees before.machine → r ≡ trace_reply answer → IsUnchanged (is_fault answer) before after
     → Says (IsTraceAnswer id) answer before after → r ≡ trace_reply other → Sound (TellsOf (IsTraceAnswer id) (history_of before) later) other
     → IsAnsweredOrRefused true (Ok (request.Trace id)) before r after
-trace_told id before after later grows r (Ok answer) (Ok other) is still (rows, same, tells) also sound =
+trace_told id before after later grows r (Ok answer) (Ok other) agrees is still (outside, more, moved, none, tells) also sound =
     let equal = same_traced answer.as_of other.as_of answer.rows other.rows (sym is ∙ also) in
     let own : TellsOf (IsTraceAnswer id) (history_of before) later answer =
     subst (λ (x : TraceAnswer). TellsOf (IsTraceAnswer id) (history_of before) later x) (sym (same_trace answer other equal.0 equal.1)) sound in
-    traced true id before after r (history_rows (history_of before)) answer is still (λ sure k. refl)
-    (told_exactly (IsTraceAnswer id) (λ (x : TraceAnswer). x.as_of) (λ n rs x t. t.count) (history_of before) later rows answer grows tells own)
-trace_told id before after later grows r (Ok answer) (Err why) is still says also sound = let bad : ⊥ = (let e = sym is ∙ also in cc) in absurd bad
-trace_told id before after later grows r (Err error.Fault) other is still rose also sound = refused true id before after r DiskFault is rose still
-trace_told id before after later grows r (Err (error.NotBlock file at)) (Ok other) is still among also sound = let bad : ⊥ = (let e = sym is ∙ also in cc) in absurd bad
-trace_told id before after later grows r (Err (error.NotBlock file at)) (Err error.Fault) is still among also sound = let bad : ⊥ = (let e = sym is ∙ also in cc) in absurd bad
-trace_told id before after later grows r (Err (error.NotBlock file at)) (Err (error.NotBlock f a)) is still among also sound = absurd sound
-trace_told id before after later grows r (Err (error.NotBlock file at)) (Err error.Memory) is still among also sound = let bad : ⊥ = (let e = sym is ∙ also in cc) in absurd bad
-trace_told id before after later grows r (Err error.Memory) other is still any also sound = refused true id before after r Memory is tt still
+    let h : History = history_of before in
+    traced true id before after r (all_rows before outside) answer is still (seen_told true before outside agrees moved)
+    (trace_over id (count_of h) (history_rows h) (all_rows before outside) answer (λ k. sym (all_firsts before outside agrees moved k))
+    (told_exactly (IsTraceAnswer id) (λ (x : TraceAnswer). x.as_of) (λ n rs x t. t.count) h later (outside ++ more) answer grows tells own))
+trace_told id before after later grows r (Ok answer) (Err why) agrees is still says also sound = let bad : ⊥ = (let e = sym is ∙ also in cc) in absurd bad
+trace_told id before after later grows r (Err error.Fault) other agrees is still rose also sound = refused true id before after r DiskFault is rose still
+trace_told id before after later grows r (Err (error.NotBlock file at)) (Ok other) agrees is still among also sound = let bad : ⊥ = (let e = sym is ∙ also in cc) in absurd bad
+trace_told id before after later grows r (Err (error.NotBlock file at)) (Err error.Fault) agrees is still among also sound = let bad : ⊥ = (let e = sym is ∙ also in cc) in absurd bad
+trace_told id before after later grows r (Err (error.NotBlock file at)) (Err (error.NotBlock f a)) agrees is still among also sound = absurd sound
+trace_told id before after later grows r (Err (error.NotBlock file at)) (Err error.Memory) agrees is still among also sound = let bad : ⊥ = (let e = sym is ∙ also in cc) in absurd bad
+trace_told id before after later grows r (Err error.Memory) other agrees is still any also sound = refused true id before after r Memory is tt still
 
 -- ---- a search
-
--- What is found in rows that have the first occurrences of a history is found at the history.
-found_at : (asked : Asked) (h : History) (rows : List Row) (answer : SearchAnswer) → SameFirsts rows (history_rows h) → IsSearchAnswer asked (count_of h) rows answer → IsFound asked h answer.results
-found_at asked h rows answer same tells = record {
-  rows = tells.firsts;
-  firsts = firsts_alike rows (history_rows h) tells.firsts same tells.are_first;
-  answer = tells.found;
-}
 
 abbrev fields_of : Search → List (List ℕ)
 fields_of s = printed_fields (query_tree s.checked.query)
 
 found : (told : Bool) (s : Search) (before after : At) (r : Reply) (rows : List Row) (answer : SearchAnswer) → r ≡ Searched answer.as_of (fields_of s) answer.results → IsStill before after
-    → (IsSure told before → SameFirsts rows (history_rows (history_of before))) → IsSearchAnswer (asked_of s) (count_of (history_of before)) rows answer
+    → AreSeen told before rows → IsSearchAnswer (asked_of s) (count_of (history_of before)) rows answer
     → IsAnsweredOrRefused told (Ok (request.Search s)) before r after
-found told s before after r rows answer is still same tells =
+found told s before after r rows answer is still are tells =
     inl (
       answer.results,
-      (λ sure. found_at (asked_of s) (history_of before) rows answer (same sure) tells),
+      found_seen told (asked_of s) (count_of (history_of before)) before rows answer are tells,
       is ∙ ap (λ (n : ℕ). Searched n (fields_of s) answer.results) tells.count,
       still,
     )
@@ -148,13 +135,14 @@ not_found : (told : Bool) (s : Search) (before after : At) (r : Reply) (why : Re
     → IsAnsweredOrRefused told (Ok (request.Search s)) before r after
 not_found told s before after r why is holds still = inr (why, is, holds, still)
 
-search_means : (s : Search) (before after : At) (r : Reply) (answer : Result SearchAnswer QueryError) → IsSearchTold (asked_of s) answer r → IsUnchanged (is_fault answer) before after
+search_means : (s : Search) (before after : At) (r : Reply) (answer : Result SearchAnswer QueryError) → Agrees before.machine → IsSearchTold (asked_of s) answer r → IsUnchanged (is_fault answer) before after
     → Says (IsSearchAnswer (asked_of s)) answer before after → IsAnsweredOrRefused false (Ok (request.Search s)) before r after
-search_means s before after r (Ok answer) (inl is) still (rows, same, tells) = found false s before after r rows answer is still (unsure before same) tells
-search_means s before after r (Ok answer) (inr is) still says = not_found false s before after r Memory is tt still
-search_means s before after r (Err error.Fault) is still rose = not_found false s before after r DiskFault is rose still
-search_means s before after r (Err (error.NotBlock file at)) is still among = not_found false s before after r (Round (cause.NotBlock file at)) is (refl, among) still
-search_means s before after r (Err error.Memory) is still any = not_found false s before after r Memory is tt still
+search_means s before after r (Ok answer) agrees (inl is) still (outside, more, moved, none, tells) =
+    found false s before after r (outside ++ more) answer is still (seen_untold before outside more agrees moved none) tells
+search_means s before after r (Ok answer) agrees (inr is) still says = not_found false s before after r Memory is tt still
+search_means s before after r (Err error.Fault) agrees is still rose = not_found false s before after r DiskFault is rose still
+search_means s before after r (Err (error.NotBlock file at)) agrees is still among = not_found false s before after r (Round (cause.NotBlock file at)) is (refl, among) still
+search_means s before after r (Err error.Memory) agrees is still any = not_found false s before after r Memory is tt still
 
 same_searched : (a b : ℕ) (fields : List (List ℕ)) (results more : List TraceResult) → Searched a fields results ≡ Searched b fields more → (a ≡ b) × (results ≡ more)
 same_searched a b fields results more e = (cc, cc)
@@ -165,39 +153,41 @@ same_search a b as_of results = ap (λ (n : ℕ). record { as_of = n; results = 
 not_refused : (as_of : ℕ) (fields : List (List ℕ)) (results : List TraceResult) (why : Refusal) → Searched as_of fields results ≡ Refused why → ⊥
 not_refused as_of fields results why e = cc
 
-search_told : (s : Search) (before after : At) (later : History) (grows : IsGrown (history_of before) later) (r : Reply) (answer other : Result SearchAnswer QueryError) → IsSearchTold (asked_of s) answer r → IsUnchanged (is_fault answer) before after
+search_told : (s : Search) (before after : At) (later : History) (grows : IsGrown (history_of before) later) (r : Reply) (answer other : Result SearchAnswer QueryError) → Agrees before.machine → IsSearchTold (asked_of s) answer r → IsUnchanged (is_fault answer) before after
     → Says (IsSearchAnswer (asked_of s)) answer before after → IsSearchTold (asked_of s) other r → Sound (TellsOf (IsSearchAnswer (asked_of s)) (history_of before) later) other
     → IsAnsweredOrRefused true (Ok (request.Search s)) before r after
-search_told s before after later grows r (Ok answer) (Ok other) (inl is) still (rows, same, tells) (inl also) sound =
+search_told s before after later grows r (Ok answer) (Ok other) agrees (inl is) still (outside, more, moved, none, tells) (inl also) sound =
     let equal = same_searched answer.as_of other.as_of (fields_of s) answer.results other.results (sym is ∙ also) in
     let own : TellsOf (IsSearchAnswer (asked_of s)) (history_of before) later answer =
     subst (λ (x : SearchAnswer). TellsOf (IsSearchAnswer (asked_of s)) (history_of before) later x) (sym (same_search answer other equal.0 equal.1)) sound in
-    found true s before after r (history_rows (history_of before)) answer is still (λ sure k. refl)
-    (told_exactly (IsSearchAnswer (asked_of s)) (λ (x : SearchAnswer). x.as_of) (λ n rs x t. t.count) (history_of before) later rows answer grows tells own)
-search_told s before after later grows r (Ok answer) (Ok other) (inl is) still says (inr also) sound =
+    let h : History = history_of before in
+    found true s before after r (all_rows before outside) answer is still (seen_told true before outside agrees moved)
+    (search_over (asked_of s) (count_of h) (history_rows h) (all_rows before outside) answer (λ k. sym (all_firsts before outside agrees moved k))
+    (told_exactly (IsSearchAnswer (asked_of s)) (λ (x : SearchAnswer). x.as_of) (λ n rs x t. t.count) h later (outside ++ more) answer grows tells own))
+search_told s before after later grows r (Ok answer) (Ok other) agrees (inl is) still says (inr also) sound =
     absurd (not_refused answer.as_of (fields_of s) answer.results Memory (sym is ∙ also))
-search_told s before after later grows r (Ok answer) (Err why) (inl is) still says also sound =
+search_told s before after later grows r (Ok answer) (Err why) agrees (inl is) still says also sound =
     absurd (not_refused answer.as_of (fields_of s) answer.results (query_refusal why) (sym is ∙ also))
-search_told s before after later grows r (Ok answer) other (inr is) still says also sound = not_found true s before after r Memory is tt still
-search_told s before after later grows r (Err error.Fault) other is still rose also sound = not_found true s before after r DiskFault is rose still
-search_told s before after later grows r (Err (error.NotBlock file at)) (Ok other) is still among (inl also) sound =
+search_told s before after later grows r (Ok answer) other agrees (inr is) still says also sound = not_found true s before after r Memory is tt still
+search_told s before after later grows r (Err error.Fault) other agrees is still rose also sound = not_found true s before after r DiskFault is rose still
+search_told s before after later grows r (Err (error.NotBlock file at)) (Ok other) agrees is still among (inl also) sound =
     absurd (not_refused other.as_of (fields_of s) other.results (query_refusal (error.NotBlock file at)) (sym also ∙ is))
-search_told s before after later grows r (Err (error.NotBlock file at)) (Ok other) is still among (inr also) sound = let bad : ⊥ = (let e = sym is ∙ also in cc) in absurd bad
-search_told s before after later grows r (Err (error.NotBlock file at)) (Err error.Fault) is still among also sound = let bad : ⊥ = (let e = sym is ∙ also in cc) in absurd bad
-search_told s before after later grows r (Err (error.NotBlock file at)) (Err (error.NotBlock f a)) is still among also sound = absurd sound
-search_told s before after later grows r (Err (error.NotBlock file at)) (Err error.Memory) is still among also sound = let bad : ⊥ = (let e = sym is ∙ also in cc) in absurd bad
-search_told s before after later grows r (Err error.Memory) other is still any also sound = not_found true s before after r Memory is tt still
+search_told s before after later grows r (Err (error.NotBlock file at)) (Ok other) agrees is still among (inr also) sound = let bad : ⊥ = (let e = sym is ∙ also in cc) in absurd bad
+search_told s before after later grows r (Err (error.NotBlock file at)) (Err error.Fault) agrees is still among also sound = let bad : ⊥ = (let e = sym is ∙ also in cc) in absurd bad
+search_told s before after later grows r (Err (error.NotBlock file at)) (Err (error.NotBlock f a)) agrees is still among also sound = absurd sound
+search_told s before after later grows r (Err (error.NotBlock file at)) (Err error.Memory) agrees is still among also sound = let bad : ⊥ = (let e = sym is ∙ also in cc) in absurd bad
+search_told s before after later grows r (Err error.Memory) other agrees is still any also sound = not_found true s before after r Memory is tt still
 
 -- ---- a metrics query
 
 measured : (told : Bool) (m : Metrics) (before after : At) (r : Reply) (rows : List Row) (answer : SearchAnswer) (series : List Series) → AreSeries answer.results m.start m.end m.step m.rate series
-    → r ≡ Measured answer.as_of series → IsStill before after → (IsSure told before → SameFirsts rows (history_rows (history_of before)))
+    → r ≡ Measured answer.as_of series → IsStill before after → AreSeen told before rows
     → IsSearchAnswer (counted_of m) (count_of (history_of before)) rows answer → IsAnsweredOrRefused told (Ok (request.Metrics m)) before r after
-measured told m before after r rows answer series are is still same tells =
+measured told m before after r rows answer series are is still seen tells =
     inl (
       answer.results,
       series,
-      (λ sure. found_at (counted_of m) (history_of before) rows answer (same sure) tells),
+      found_seen told (counted_of m) (count_of (history_of before)) before rows answer seen tells,
       are,
       is ∙ ap (λ (n : ℕ). Measured n series) tells.count,
       still,
@@ -207,13 +197,14 @@ not_measured : (told : Bool) (m : Metrics) (before after : At) (r : Reply) (why 
     → IsAnsweredOrRefused told (Ok (request.Metrics m)) before r after
 not_measured told m before after r why is holds still = inr (why, is, holds, still)
 
-metrics_means : (m : Metrics) (before after : At) (r : Reply) (answer : Result SearchAnswer QueryError) → IsMetricsTold m answer r → IsUnchanged (is_fault answer) before after
+metrics_means : (m : Metrics) (before after : At) (r : Reply) (answer : Result SearchAnswer QueryError) → Agrees before.machine → IsMetricsTold m answer r → IsUnchanged (is_fault answer) before after
     → Says (IsSearchAnswer (counted_of m)) answer before after → IsAnsweredOrRefused false (Ok (request.Metrics m)) before r after
-metrics_means m before after r (Ok answer) (inl (series, are, is)) still (rows, same, tells) = measured false m before after r rows answer series are is still (unsure before same) tells
-metrics_means m before after r (Ok answer) (inr is) still says = not_measured false m before after r Memory is tt still
-metrics_means m before after r (Err error.Fault) is still rose = not_measured false m before after r DiskFault is rose still
-metrics_means m before after r (Err (error.NotBlock file at)) is still among = not_measured false m before after r (Round (cause.NotBlock file at)) is (refl, among) still
-metrics_means m before after r (Err error.Memory) is still any = not_measured false m before after r Memory is tt still
+metrics_means m before after r (Ok answer) agrees (inl (series, are, is)) still (outside, more, moved, none, tells) =
+    measured false m before after r (outside ++ more) answer series are is still (seen_untold before outside more agrees moved none) tells
+metrics_means m before after r (Ok answer) agrees (inr is) still says = not_measured false m before after r Memory is tt still
+metrics_means m before after r (Err error.Fault) agrees is still rose = not_measured false m before after r DiskFault is rose still
+metrics_means m before after r (Err (error.NotBlock file at)) agrees is still among = not_measured false m before after r (Round (cause.NotBlock file at)) is (refl, among) still
+metrics_means m before after r (Err error.Memory) agrees is still any = not_measured false m before after r Memory is tt still
 
 same_measured : (a b : ℕ) (series more : List Series) → Measured a series ≡ Measured b more → a ≡ b
 same_measured a b series more e = cc
@@ -222,27 +213,28 @@ measured_not_refused : (as_of : ℕ) (series : List Series) (why : Refusal) → 
 measured_not_refused as_of series why e = cc
 
 -- The series may be those of other results than were found, but these are found at the history too, since the counts are one.
-metrics_told : (m : Metrics) (before after : At) (later : History) (grows : IsGrown (history_of before) later) (r : Reply) (answer other : Result SearchAnswer QueryError) → IsMetricsTold m answer r → IsUnchanged (is_fault answer) before after
+metrics_told : (m : Metrics) (before after : At) (later : History) (grows : IsGrown (history_of before) later) (r : Reply) (answer other : Result SearchAnswer QueryError) → Agrees before.machine → IsMetricsTold m answer r → IsUnchanged (is_fault answer) before after
     → Says (IsSearchAnswer (counted_of m)) answer before after → IsMetricsTold m other r → Sound (TellsOf (IsSearchAnswer (counted_of m)) (history_of before) later) other
     → IsAnsweredOrRefused true (Ok (request.Metrics m)) before r after
-metrics_told m before after later grows r (Ok answer) (Ok other) (inl (series, are, is)) still (rows, same, tells) (inl (more, are_more, also)) sound =
+metrics_told m before after later grows r (Ok answer) (Ok other) agrees (inl (series, are, is)) still (outside, more, moved, none, tells) (inl (others, are_others, also)) sound =
     let h : History = history_of before in
-    let count : other.as_of ≡ count_of h = sym (same_measured answer.as_of other.as_of series more (sym is ∙ also)) ∙ tells.count in
-    measured true m before after r (history_rows h) other more are_more also still (λ sure k. refl)
-    (told_at (IsSearchAnswer (counted_of m)) (λ (x : SearchAnswer). x.as_of) (λ n rs x t. t.count) h later other grows count sound)
-metrics_told m before after later grows r (Ok answer) (Ok other) (inl (series, are, is)) still says (inr also) sound =
+    let count : other.as_of ≡ count_of h = sym (same_measured answer.as_of other.as_of series others (sym is ∙ also)) ∙ tells.count in
+    measured true m before after r (all_rows before outside) other others are_others also still (seen_told true before outside agrees moved)
+    (search_over (counted_of m) (count_of h) (history_rows h) (all_rows before outside) other (λ k. sym (all_firsts before outside agrees moved k))
+    (told_at (IsSearchAnswer (counted_of m)) (λ (x : SearchAnswer). x.as_of) (λ n rs x t. t.count) h later other grows count sound))
+metrics_told m before after later grows r (Ok answer) (Ok other) agrees (inl (series, are, is)) still says (inr also) sound =
     absurd (measured_not_refused answer.as_of series Memory (sym is ∙ also))
-metrics_told m before after later grows r (Ok answer) (Err why) (inl (series, are, is)) still says also sound =
+metrics_told m before after later grows r (Ok answer) (Err why) agrees (inl (series, are, is)) still says also sound =
     absurd (measured_not_refused answer.as_of series (query_refusal why) (sym is ∙ also))
-metrics_told m before after later grows r (Ok answer) other (inr is) still says also sound = not_measured true m before after r Memory is tt still
-metrics_told m before after later grows r (Err error.Fault) other is still rose also sound = not_measured true m before after r DiskFault is rose still
-metrics_told m before after later grows r (Err (error.NotBlock file at)) (Ok other) is still among (inl (more, are_more, also)) sound =
+metrics_told m before after later grows r (Ok answer) other agrees (inr is) still says also sound = not_measured true m before after r Memory is tt still
+metrics_told m before after later grows r (Err error.Fault) other agrees is still rose also sound = not_measured true m before after r DiskFault is rose still
+metrics_told m before after later grows r (Err (error.NotBlock file at)) (Ok other) agrees is still among (inl (more, are_more, also)) sound =
     absurd (measured_not_refused other.as_of more (query_refusal (error.NotBlock file at)) (sym also ∙ is))
-metrics_told m before after later grows r (Err (error.NotBlock file at)) (Ok other) is still among (inr also) sound = let bad : ⊥ = (let e = sym is ∙ also in cc) in absurd bad
-metrics_told m before after later grows r (Err (error.NotBlock file at)) (Err error.Fault) is still among also sound = let bad : ⊥ = (let e = sym is ∙ also in cc) in absurd bad
-metrics_told m before after later grows r (Err (error.NotBlock file at)) (Err (error.NotBlock f a)) is still among also sound = absurd sound
-metrics_told m before after later grows r (Err (error.NotBlock file at)) (Err error.Memory) is still among also sound = let bad : ⊥ = (let e = sym is ∙ also in cc) in absurd bad
-metrics_told m before after later grows r (Err error.Memory) other is still any also sound = not_measured true m before after r Memory is tt still
+metrics_told m before after later grows r (Err (error.NotBlock file at)) (Ok other) agrees is still among (inr also) sound = let bad : ⊥ = (let e = sym is ∙ also in cc) in absurd bad
+metrics_told m before after later grows r (Err (error.NotBlock file at)) (Err error.Fault) agrees is still among also sound = let bad : ⊥ = (let e = sym is ∙ also in cc) in absurd bad
+metrics_told m before after later grows r (Err (error.NotBlock file at)) (Err (error.NotBlock f a)) agrees is still among also sound = absurd sound
+metrics_told m before after later grows r (Err (error.NotBlock file at)) (Err error.Memory) agrees is still among also sound = let bad : ⊥ = (let e = sym is ∙ also in cc) in absurd bad
+metrics_told m before after later grows r (Err error.Memory) other agrees is still any also sound = not_measured true m before after r Memory is tt still
 
 -- ---- any item
 
@@ -320,11 +312,11 @@ pub item_means : (item : Item) (before after : At) (r : Reply) (calls : List Cal
     → IsAnsweredOrRefused false item before r after
 item_means (Ok (request.Push reading moment)) before after r calls agrees a lead = inl (line_means false (Ok (request.Push reading moment)) before after r calls (λ q. q) (untold (history_of before) (Ok (request.Push reading moment)) r after) a lead)
 item_means (Ok (request.Trace id)) before after r calls agrees (answer, is, asked) lead =
-    let says = asked_says (IsTraceAnswer id) answer before after calls agrees asked lead in trace_means id before after r answer is says.0 says.1
+    let says = asked_says (IsTraceAnswer id) answer before after calls asked lead in trace_means id before after r answer agrees is says.0 says.1
 item_means (Ok (request.Search s)) before after r calls agrees (answer, is, asked) lead =
-    let says = asked_says (IsSearchAnswer (asked_of s)) answer before after calls agrees asked lead in search_means s before after r answer is says.0 says.1
+    let says = asked_says (IsSearchAnswer (asked_of s)) answer before after calls asked lead in search_means s before after r answer agrees is says.0 says.1
 item_means (Ok (request.Metrics m)) before after r calls agrees (answer, is, asked) lead =
-    let says = asked_says (IsSearchAnswer (counted_of m)) answer before after calls agrees asked lead in metrics_means m before after r answer is says.0 says.1
+    let says = asked_says (IsSearchAnswer (counted_of m)) answer before after calls asked lead in metrics_means m before after r answer agrees is says.0 says.1
 item_means (Ok (request.Cut moment)) before after r calls agrees a lead = inl (line_means false (Ok (request.Cut moment)) before after r calls (λ q. q) (untold (history_of before) (Ok (request.Cut moment)) r after) a lead)
 item_means (Ok request.CutAll) before after r calls agrees a lead = inl (line_means false (Ok request.CutAll) before after r calls (λ q. q) (untold (history_of before) (Ok request.CutAll) r after) a lead)
 item_means (Ok request.Flush) before after r calls agrees a lead = inl (line_means false (Ok request.Flush) before after r calls (λ q. q) (untold (history_of before) (Ok request.Flush) r after) a lead)
@@ -337,11 +329,11 @@ pub item_means_told : (item : Item) (before after : At) (r : Reply) (calls : Lis
     → IsItemTold (history_of before) item r → AreCounted after.machine.state.blocks → IsAnsweredOrRefused true item before r after
 item_means_told (Ok (request.Push reading moment)) before after r calls agrees a lead t are = inl (line_means true (Ok (request.Push reading moment)) before after r calls (λ q. q) (λ sure. (t, are)) a lead)
 item_means_told (Ok (request.Trace id)) before after r calls agrees (answer, is, asked) lead (later, grows, (other, also, sound)) are =
-    let says = asked_says (IsTraceAnswer id) answer before after calls agrees asked lead in trace_told id before after later grows r answer other is says.0 says.1 also sound
+    let says = asked_says (IsTraceAnswer id) answer before after calls asked lead in trace_told id before after later grows r answer other agrees is says.0 says.1 also sound
 item_means_told (Ok (request.Search s)) before after r calls agrees (answer, is, asked) lead (later, grows, (other, also, sound)) are =
-    let says = asked_says (IsSearchAnswer (asked_of s)) answer before after calls agrees asked lead in search_told s before after later grows r answer other is says.0 says.1 also sound
+    let says = asked_says (IsSearchAnswer (asked_of s)) answer before after calls asked lead in search_told s before after later grows r answer other agrees is says.0 says.1 also sound
 item_means_told (Ok (request.Metrics m)) before after r calls agrees (answer, is, asked) lead (later, grows, (other, also, sound)) are =
-    let says = asked_says (IsSearchAnswer (counted_of m)) answer before after calls agrees asked lead in metrics_told m before after later grows r answer other is says.0 says.1 also sound
+    let says = asked_says (IsSearchAnswer (counted_of m)) answer before after calls asked lead in metrics_told m before after later grows r answer other agrees is says.0 says.1 also sound
 item_means_told (Ok (request.Cut moment)) before after r calls agrees a lead t are = inl (line_means true (Ok (request.Cut moment)) before after r calls (λ q. q) (λ sure. (t, are)) a lead)
 item_means_told (Ok request.CutAll) before after r calls agrees a lead t are = inl (line_means true (Ok request.CutAll) before after r calls (λ q. q) (λ sure. (t, are)) a lead)
 item_means_told (Ok request.Flush) before after r calls agrees a lead t are = inl (line_means true (Ok request.Flush) before after r calls (λ q. q) (λ sure. (t, are)) a lead)

@@ -16,8 +16,8 @@ use Rattle.client_run.specs.CoreRuns.{HasStepped}
 use Rattle.client_run.proofs.CallLemmas.{tells_kept}
 use Rattle.client_run.proofs.CoreLemmas.{shows_stepped, since_stepped}
 use Rattle.session_meaning.specs.Answering.{CallsLead, IsItemAnswered, at_core}
-use Rattle.session_meaning.specs.Ingest.{Duty, Ingests, IsDue, due}
-use Rattle.session_meaning.specs.Progress.{AreAnsweredOver, IngestsOver, IsAnsweredOver}
+use Rattle.session_meaning.specs.Duties.{Duty, Follows, IsDue, due}
+use Rattle.session_meaning.specs.Progress.{AreAnsweredOver, FollowsOver, IsAnsweredOver}
 use Rattle.session_meaning.specs.Session.{IsAnsweredOrRefused, Session}
 use Rattle.session_meaning.proofs.AnswerLaws.{IsItemTold, item_means, item_means_told}
 use Rattle.session_meaning.proofs.Counted.{blocks_counted}
@@ -64,8 +64,8 @@ module _ {D : Type 0} (g : Ghosts D) where
       -- The same of an ingest, of which the core's memory says what is due.
       ingest_means : ((core : Core D) (m : Machine) → is_with core m → held_in core ≡ held_of m.state)
           → (todo : List Duty) (moments : Option (List ℕ)) (items : List Item) (replies : List Reply) (first last : Core D) (m : Machine) (left : List Duty) (to_tell : Option (List ℕ))
-          → is_with first m → IngestsOver g todo moments first items replies last left to_tell
-          → (m' : Machine) × is_with last m' × Ingests told todo moments (at_core g first m) items replies (at_core g last m') left to_tell
+          → is_with first m → FollowsOver g todo moments first items replies last left to_tell
+          → (m' : Machine) × is_with last m' × Follows told todo moments (at_core g first m) items replies (at_core g last m') left to_tell
       ingest_means held todo moments [] replies first last m left to_tell stands (none, is, left_is, moments_are) = (
         m,
         subst (λ (core : Core D). is_with core m) (sym is) stands,
@@ -103,8 +103,8 @@ module _ {D : Type 0} (g : Ghosts D) where
       (λ old new m item reply shows is h. item_means item (at_core g old m) (at_core g new h.machine) reply h.calls shows.state.agrees h.answered h.lead)
 
   pub shown_ingests : (todo : List Duty) (moments : Option (List ℕ)) (items : List Item) (replies : List Reply) (first last : Core D) (m : Machine) (left : List Duty) (to_tell : Option (List ℕ))
-      → CoreShows g first m → IngestsOver g todo moments first items replies last left to_tell
-      → (m' : Machine) × CoreShows g last m' × Ingests false todo moments (at_core g first m) items replies (at_core g last m') left to_tell
+      → CoreShows g first m → FollowsOver g todo moments first items replies last left to_tell
+      → (m' : Machine) × CoreShows g last m' × Follows false todo moments (at_core g first m) items replies (at_core g last m') left to_tell
   shown_ingests = ingest_means (CoreShows g) (shows_stepped g) false
       (λ old new m item reply shows is h. item_means item (at_core g old m) (at_core g new h.machine) reply h.calls shows.state.agrees h.answered h.lead)
       (λ core m shows. held_shown core m shows.state.has)
@@ -148,8 +148,8 @@ module _ {D : Type 0} (g : Ghosts D) where
         (blocks_counted g new h.machine h.stands.0.stands h.stands.1))
 
     pub since_ingests : (todo : List Duty) (moments : Option (List ℕ)) (items : List Item) (replies : List Reply) (first last : Core D) (m : Machine) (left : List Duty) (to_tell : Option (List ℕ))
-        → TellsSince first m → IngestsOver g todo moments first items replies last left to_tell
-        → (m' : Machine) × TellsSince last m' × Ingests true todo moments (at_core g first m) items replies (at_core g last m') left to_tell
+        → TellsSince first m → FollowsOver g todo moments first items replies last left to_tell
+        → (m' : Machine) × TellsSince last m' × Follows true todo moments (at_core g first m) items replies (at_core g last m') left to_tell
     since_ingests = ingest_means TellsSince tells_on true
         (λ old new m item reply since is h. item_means_told item (at_core g old m) (at_core g new h.machine) reply h.calls since.0.stands.stands.agrees h.answered h.lead (item_told old new item reply m since is)
         (blocks_counted g new h.machine h.stands.0.stands h.stands.1))

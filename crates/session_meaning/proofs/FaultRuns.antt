@@ -6,7 +6,7 @@ use Rattle.std.specs.Str.{bytes_eq, is_utf8}
 use Rattle.std.specs.List.{list_any}
 use Rattle.command_words.specs.Commands.{Alone, Command, Ingest as ingest, Session as session, Spells}
 use Rattle.disk_model.specs.Counts.{RoseBy}
-use Rattle.io_edges.specs.Lines.{line_limit}
+use Rattle.io_edges.specs.Lines.{line_limit, lines}
 use Rattle.otlp_spans.specs.Fields.{trace_id_of}
 use Rattle.otlp_spans.specs.Reading.{Given, NoJson, TooManySpans, WrongForm, reading_of}
 use Rattle.otlp_spans.specs.Reading as otlp
@@ -24,12 +24,13 @@ use Rattle.session_text.specs.MetricsLines.{MetricsLine, metrics_parts}
 use Rattle.session_text.specs.Options.{SearchLine, search_parts}
 use Rattle.session_text.specs.Requests.{Answers, AsksAt, AsksPush, Line, alone, buckets_of, line_of, measured, metrics_with, other_line, plain, push_of, push_with, pushed, request_by, search_with, searched, trace_with, with_id}
 use Rattle.session_text.specs.Searches.{of_check, of_parse}
-use Rattle.session_meaning.specs.declared.ending.Ending.TheVariants.{NotOpened}
+use Rattle.session_meaning.specs.declared.ending.Ending.{Ending}
+use Rattle.session_meaning.specs.declared.ending.Ending.TheVariants.{Answered, BadWords, NotOpened, NotStore, ReadFault, Refused, Spent, Starved, WriteFault}
 use Rattle.session_meaning.specs.Asked.{AreAsked, after_moment}
-use Rattle.session_meaning.specs.At.{At}
 use Rattle.session_meaning.specs.Causes.{blames_disk, disk_faults, is_disk_fault}
-use Rattle.session_meaning.specs.Ingest.{Duty, Ingests, IsDue, ask, compact_all, due_at, keep_small, push}
-use Rattle.session_meaning.specs.Runs.{DoesInStore, Edges, HasAnswered, HasIngested, HasRun, IsRunOf, Outcome, TellsAll}
+use Rattle.session_meaning.specs.Ingest.{Asks, AsksLine, AtTheEnd, Compacts, Far, Ingests, KeptSmall, LinesPushed, Part, Pushes, Stand, Then}
+use Rattle.session_meaning.specs.Ingest.Far.{stopped, whole}
+use Rattle.session_meaning.specs.Runs.{CameSoFar, DoesInStore, Edges, HasAnswered, HasIngested, HasRun, IsRunOf, Outcome, TellsAll}
 use Rattle.session_meaning.proofs.FaultLaws.{rose_none, session_counts}
 
 -- ---- one line
@@ -146,20 +147,76 @@ all_none ((b ∷ bs) ∷ lines) moments [] refused a = absurd a
 all_none ((b ∷ bs) ∷ lines) moments (item ∷ items) refused (now, later, are, next, rest) =
     add_none item items (asked_none next.0 (b ∷ bs) now item next.2) (all_none lines (after_moment moments) items later rest)
 
-due_none : (todo : List Duty) (moments : Option (List ℕ)) (item : Item) (r : Reply) (later : List Duty) (to_tell : Option (List ℕ)) → IsDue todo moments item r later to_tell → blames_disk item ≡ false
-due_none [] moments item r later to_tell d = absurd d
-due_none (push line ∷ todo) moments item r later to_tell (next, left, clock) = push_asked_none next.0 line item next.2
-due_none (keep_small ∷ todo) moments item r later to_tell d = absurd d
-due_none (ask asked ∷ todo) moments item r later to_tell (is, left, clock) = ap blames_disk is
-due_none (compact_all times ∷ todo) moments item r later to_tell (is, clock, left) = ap blames_disk is
+-- ---- the parts of an ingest
 
-ingest_none : (sure : Bool) (todo : List Duty) (moments : Option (List ℕ)) (first : At) (items : List Item) (replies : List Reply) (last : At) (left : List Duty) (to_tell : Option (List ℕ))
-    → Ingests sure todo moments first items replies last left to_tell → list_any blames_disk items ≡ false
-ingest_none sure todo moments first [] replies last left to_tell h = refl
-ingest_none sure todo moments first (item ∷ items) [] last left to_tell h = absurd h
-ingest_none sure todo moments first (item ∷ items) (r ∷ rs) last left to_tell (between, later, told_later, is_due, answered, rest) =
-    add_none item items (due_none (due_at first todo) moments item r later told_later is_due)
-    (ingest_none sure later told_later between items rs last left to_tell rest)
+abbrev BlamesNone : Part → Type 0
+BlamesNone part = (before after : Stand) (items : List Item) (replies : List Reply) (far : Far) → part before items replies after far → list_any blames_disk items ≡ false
+
+joined_none : (xs ys : List Item) → list_any blames_disk xs ≡ false → list_any blames_disk ys ≡ false → list_any blames_disk (xs ++ ys) ≡ false
+joined_none [] ys first later = later
+joined_none (x ∷ xs) ys first later = go (blames_disk x) refl first (λ rest. joined_none xs ys rest later)
+  where
+    go : (b : Bool) → blames_disk x ≡ b → (b || list_any blames_disk xs) ≡ false → (list_any blames_disk xs ≡ false → list_any blames_disk (xs ++ ys) ≡ false)
+        → list_any blames_disk ((x ∷ xs) ++ ys) ≡ false
+    go true is bad more = let no : ⊥ = cc in absurd no
+    go false is rest more = add_none x (xs ++ ys) is (more rest)
+
+then_none : (one two : Part) → BlamesNone one → BlamesNone two → BlamesNone (Then one two)
+then_none one two first next before after items replies far (inl halt) = first before after items replies stopped halt.0
+then_none one two first next before after items replies far (inr (mid, xs, ys, rs, ss, items_are, replies_are, done, rest)) =
+    ap (list_any blames_disk) items_are ∙ joined_none xs ys (first before mid xs rs whole done) (next mid after ys ss far rest)
+
+ask_none : (sure : Bool) (request : Request) → BlamesNone (Asks sure request)
+ask_none sure request before after items replies far (inl nothing) = ap (list_any blames_disk) nothing.0.0
+ask_none sure request before after items replies far (inr (reply, is, told, answered, clock)) = ap (list_any blames_disk) is
+
+line_pushed_none : (sure : Bool) (line : List ℕ) → BlamesNone (AsksLine sure line)
+line_pushed_none sure line before after items replies far (inl nothing) = ap (list_any blames_disk) nothing.0.0
+line_pushed_none sure line before after items replies far (inr (moment, item, reply, next, asks, is, told, answered, clock)) =
+    ap (list_any blames_disk) is ∙ add_none item [] (push_asked_none moment line item asks) refl
+
+small_none : (sure : Bool) → BlamesNone (KeptSmall sure)
+small_none sure before after items replies far (inl few) = ap (list_any blames_disk) few.1.0
+small_none sure before after items replies far (inr many) = then_none (Asks sure request.CutAll) (Asks sure request.Flush) (ask_none sure request.CutAll) (ask_none sure request.Flush) before after items replies far many.1
+
+lines_none : (sure : Bool) (lines : List (List ℕ)) → BlamesNone (LinesPushed sure lines)
+lines_none sure [] before after items replies far nothing = ap (list_any blames_disk) nothing.0
+lines_none sure ([] ∷ lines) before after items replies far h = lines_none sure lines before after items replies far h
+lines_none sure ((b ∷ bs) ∷ lines) before after items replies far h =
+    then_none (Then (AsksLine sure (b ∷ bs)) (KeptSmall sure)) (LinesPushed sure lines)
+    (then_none (AsksLine sure (b ∷ bs)) (KeptSmall sure) (line_pushed_none sure (b ∷ bs)) (small_none sure)) (lines_none sure lines) before after items replies far h
+
+compacts_none : (sure : Bool) → BlamesNone (Compacts sure)
+compacts_none sure before after [] replies far h = refl
+compacts_none sure before after (i ∷ is) [] far bad = absurd bad
+compacts_none sure before after (i ∷ is) (r ∷ rs) far (asks, between, answered, clock, inl more) =
+    add_none i is (ap blames_disk asks) (compacts_none sure between after is rs far more.1)
+compacts_none sure before after (i ∷ is) (r ∷ rs) far (asks, between, answered, clock, inr last) =
+    add_none i is (ap blames_disk asks) (ap (list_any blames_disk) last.1.0)
+
+ingest_none : (sure : Bool) (lines : List (List ℕ)) → BlamesNone (Ingests sure lines)
+ingest_none sure lines =
+    then_none (KeptSmall sure) (Then (LinesPushed sure lines) (AtTheEnd sure)) (small_none sure)
+    (then_none (LinesPushed sure lines) (AtTheEnd sure) (lines_none sure lines)
+    (then_none (Asks sure request.CutAll) (Then (Asks sure request.Flush) (Then (Compacts sure) (Asks sure request.Reclaim))) (ask_none sure request.CutAll)
+    (then_none (Asks sure request.Flush) (Then (Compacts sure) (Asks sure request.Reclaim)) (ask_none sure request.Flush)
+    (then_none (Compacts sure) (Asks sure request.Reclaim) (compacts_none sure) (ask_none sure request.Reclaim)))))
+
+pushes_none : (sure : Bool) (lines : List (List ℕ)) (before after : Stand) (items : List Item) (replies : List Reply) → Pushes sure lines before items replies after → list_any blames_disk items ≡ false
+pushes_none sure lines before after items replies h =
+    then_none (KeptSmall sure) (LinesPushed sure lines) (small_none sure) (lines_none sure lines) before after items replies whole h
+
+came_none : (sure : Bool) (e : Ending) (all pushed : List (List ℕ)) (before after : Stand) (items : List Item) (replies : List Reply) → CameSoFar sure e all pushed before items replies after
+    → list_any blames_disk items ≡ false
+came_none sure Answered all pushed before after items replies h = ingest_none sure all before after items replies whole h
+came_none sure WriteFault all pushed before after items replies h = ingest_none sure all before after items replies stopped h
+came_none sure BadWords all pushed before after items replies h = ingest_none sure all before after items replies stopped h
+came_none sure ReadFault all pushed before after items replies h = pushes_none sure pushed before after items replies h
+came_none sure NotOpened all pushed before after items replies h = ingest_none sure all before after items replies stopped h
+came_none sure (NotStore file at) all pushed before after items replies h = ingest_none sure all before after items replies stopped h
+came_none sure Starved all pushed before after items replies h = ingest_none sure all before after items replies stopped h
+came_none sure Refused all pushed before after items replies h = ingest_none sure all before after items replies whole h
+came_none sure Spent all pushed before after items replies h = pushes_none sure pushed before after items replies h
 
 -- ---- a run
 
@@ -172,7 +229,7 @@ items_none sure session o old new (text, before, source, sink) did =
     all_none ran.answered (after_moment old.moments) o.items o.refused ran.asked
 items_none sure ingest o old new (text, before, source, sink) did =
     let ran = some_is old.taken before (λ b. HasIngested sure text b o old new) sink (some_is old.left text (λ t. IfSome old.taken (λ b. HasIngested sure t b o old new)) source did) in
-    ingest_none sure _ (after_moment old.moments) o.first o.items o.replies o.last ran.left new.moments ran.asked
+    came_none sure o.ending (lines text) ran.pushed (record { store = o.first; moments = after_moment old.moments }) (record { store = o.last; moments = new.moments }) o.items o.replies ran.asked
 items_none sure (Alone line) o old new (before, sink) did =
     let ran = some_is old.taken before (λ b. HasAnswered line b o old new) sink did.1 in
     ap (list_any blames_disk) ran.items_are

@@ -1,7 +1,8 @@
 mod Steps
 mod Looks
-mod QueryLaws
 pub mod Firsts
+pub mod Seen
+mod QueryLaws
 mod RoundSteps
 mod Rounds
 mod RoundLaws
@@ -21,10 +22,12 @@ mod ReadOnly
 mod FaultLaws
 mod FaultRuns
 mod Counted
+pub mod OnDisk
 pub mod CoreSessions
 pub mod EndLaws
 pub mod Unsure
 pub mod IngestLaws
 mod FewerBlocks
 mod IngestRounds
-mod IngestEnds
+pub mod IngestParts
+pub mod Following

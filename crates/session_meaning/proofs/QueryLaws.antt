@@ -4,25 +4,21 @@ use Rattle.std.proofs.Common.{◌≡◌, inl, inr, ℕ, Bool, true, false, List,
 use Rattle.std.specs.List.Sorted.{IsPermutation}
 use Rattle.disk_model.proofs.CallRuns.{raised_rose}
 use Rattle.span_types.specs.Faults.{Rose}
-use Rattle.span_types.specs.First.{first_at}
-use Rattle.span_types.specs.declared.ids.Key.{Key}
 use Rattle.span_types.specs.declared.spans.Row.{Row}
 use Rattle.block_info.specs.InfoParts.{InfoParts}
 use Rattle.query_fanout.proofs.Later.{as_it_was}
 use Rattle.query_fanout.specs.Queries.{AreReads, ComesOf, IsAsked, IsGrown, ReadsPages, TellsOf, is_fault, parts_of}
 use Rattle.query_fanout.specs.declared.error.QueryError.{QueryError}
 use Rattle.query_fanout.specs.declared.error.QueryError.TheVariants as error
-use Rattle.store_images.specs.Stored.{SameFirsts}
+use Rattle.store_core.specs.Waiting.{rows_outside}
 use Rattle.store_model.specs.After.{after_done}
 use Rattle.store_model.specs.Event.{Reply as reply, LookParts}
 use Rattle.store_model.specs.Event.Event.{Done, Look, ReadPage}
 use Rattle.store_model.specs.Event.Reply.{Fine, Page, Refused}
 use Rattle.store_model.specs.Event.Refusal.{Fault, Memory}
 use Rattle.store_model.specs.History.{History, count_of, history_rows, up_to}
-use Rattle.store_model.specs.Laws.{Agrees}
-use Rattle.store_model.specs.State.{Block, block_files, block_rows, flush_rows, is_among, live_rows}
+use Rattle.store_model.specs.State.{block_files, is_among}
 use Rattle.store_model.specs.Step.{IsLook, Machine, with_state}
-use Rattle.store_model.proofs.KeepsFirsts as firsts
 use Rattle.store_state.specs.Given.{info_files}
 use Rattle.store_state.specs.Made.{Call, call}
 use Rattle.session_meaning.specs.Answering.{CallsLead}
@@ -63,7 +59,8 @@ reads_unchanged pin files true calls before after (reads, file, page, are, among
 -- What a query tells or why it can't, in the store's model.
 abbrev pub Says : {A : Type 0} → (ℕ → List Row → A → Type 0) → Result A QueryError → At → At → Type 0
 Says tells (Ok x) before after =
-    (rows : List Row) × (before.machine.state.blocks ≡ [] → SameFirsts rows (history_rows (history_of before))) × tells (count_of (history_of before)) rows x
+    (outside more : List Row) × IsPermutation (rows_outside before.machine.state) outside × (before.machine.state.blocks ≡ [] → more ≡ [])
+    × tells (count_of (history_of before)) (outside ++ more) x
 Says tells (Err error.Fault) before after = Rose before.faults after.faults
 Says tells (Err (error.NotBlock file at)) before after = is_among file (block_files before.machine.state.blocks) ≡ true
 Says tells (Err error.Memory) before after = ⊤
@@ -78,25 +75,19 @@ no_infos : (infos : List InfoParts) → info_files infos ≡ [] → infos ≡ []
 no_infos [] none = refl
 no_infos (i ∷ infos) none = let bad : ⊥ = cc in absurd bad
 
--- the rows of a look over no block have the first occurrences of the history
-look_firsts : (m : Machine) (rows more : List Row) → more ≡ [] → m.state.blocks ≡ []
-    → ((k : Key) → first_at k (rows ++ block_rows m.state.blocks) ≡ first_at k (history_rows m.history)) → SameFirsts (rows ++ more) (history_rows m.history)
-look_firsts m rows more nothing none same k =
-    ap (λ (others : List Row). first_at k (rows ++ others)) nothing ∙ ap (λ (blocks : List Block). first_at k (rows ++ block_rows blocks)) (sym none) ∙ same k
-
 says_memory : {A : Type 0} (tells : ℕ → List Row → A → Type 0) (r : Result A QueryError) (before after : At) → r ≡ Err error.Memory → Says tells r before after
 says_memory {A} tells r before after is = subst (λ (x : Result A QueryError). Says tells x before after) (sym is) tt
 
 -- Nothing of the store changed, and the query says so.
-pub asked_says : {A : Type 0} (tells : ℕ → List Row → A → Type 0) (r : Result A QueryError) (before after : At) (calls : List Call) → Agrees before.machine → IsAsked tells r calls
+pub asked_says : {A : Type 0} (tells : ℕ → List Row → A → Type 0) (r : Result A QueryError) (before after : At) (calls : List Call) → IsAsked tells r calls
     → CallsLead before calls after → IsUnchanged (is_fault r) before after × Says tells r before after
-asked_says {A} tells r before after calls agrees (inl (are, is)) lead =
+asked_says {A} tells r before after calls (inl (are, is)) lead =
     let step = one_step before after Look (Refused Memory) (subst (λ (cs : List Call). CallsLead before cs after) are lead) in (
       subst (λ (x : Result A QueryError). IsUnchanged (is_fault x) before after) (sym is)
           (look_refused before.faults after.faults before.machine after.machine step.1, step.0, step.2),
       says_memory tells r before after is,
     )
-asked_says {A} tells r before after calls agrees (inr (look, reads, are, pages, comes)) lead = (unchanged, said r unchanged.2 comes)
+asked_says {A} tells r before after calls (inr (look, reads, are, pages, comes)) lead = (unchanged, said r unchanged.2 comes)
   where
     m : Machine
     m = before.machine
@@ -129,8 +120,8 @@ asked_says {A} tells r before after calls agrees (inr (look, reads, are, pages, 
     ended = subst (λ (x : Machine). after.machine ≡ with_state (after_done look.pin x.state) x) read.0
         (look_ended p.0.faults after.faults p.0.machine after.machine look.pin last.1)
 
-    perm : IsPermutation (flush_rows m.state.flush ++ m.state.head ++ live_rows m.state.live) look.rows
-    perm = subst (λ (rows : List Row). IsPermutation (flush_rows m.state.flush ++ m.state.head ++ live_rows m.state.live) rows) (sym same.3) given.3
+    perm : IsPermutation (rows_outside m.state) look.rows
+    perm = subst (λ (rows : List Row). IsPermutation (rows_outside m.state) rows) (sym same.3) given.3
 
     unchanged : IsUnchanged (is_fault r) before after
     unchanged = (
@@ -141,8 +132,10 @@ asked_says {A} tells r before after calls agrees (inr (look, reads, are, pages, 
 
     said : (x : Result A QueryError) → IsCounted (is_fault x) before.faults after.faults → ComesOf (λ more y. tells look.as_of (look.rows ++ more) y) look.blocks x → Says tells x before after
     said (Ok x) counted (more, nothing, tells_so) = (
-      look.rows ++ more,
-      (λ none. look_firsts m look.rows more (nothing (no_infos look.blocks (same.1 ∙ ap block_files none))) none (firsts.look_is m look.rows agrees perm)),
+      look.rows,
+      more,
+      perm,
+      (λ none. nothing (no_infos look.blocks (same.1 ∙ ap block_files none))),
       subst (λ (n : ℕ). tells n (look.rows ++ more) x) same.2 tells_so,
     )
     said (Err error.Fault) raised any = raised_rose before.faults after.faults raised

@@ -1,6 +1,6 @@
--- What an ingest asks. It is a session whose lines are each `push`, one space and a line of the source, and that is asked
--- besides to cut, flush, compact and empty loose files, as the store has come to need it.
-use Rattle.std.specs.Prelude.{◌≡◌, ◌⊎◌, ⊤, ℕ, ◌-◌, ◌==◌, Bool, true, false, nat_le, if◌then◌else◌, List, [], ◌∷◌, ◌++◌, Option, Ok}
+-- What an ingest asks. It is a session whose lines are each `push`, one space and a line of the source, and that is asked besides to
+-- keep the store small in between, and at the end to move all rows into blocks, to join these, and to empty loose files.
+use Rattle.std.specs.Prelude.{◌≡◌, ◌⊎◌, ⊤, ℕ, ◌<◌, ◌≤◌, Bool, true, false, List, [], ◌∷◌, ◌++◌, Option, Ok}
 use Rattle.session_text.specs.declared.reply.Reply.{Reply}
 use Rattle.session_text.specs.declared.reply.Reply.TheVariants.{Compacted}
 use Rattle.session_text.specs.declared.request.Request.{Request}
@@ -12,56 +12,98 @@ use Rattle.session_meaning.specs.Asked.{IsNextMoment, after_moment}
 use Rattle.session_meaning.specs.At.{At}
 use Rattle.session_meaning.specs.Session.{IsAnsweredOrRefused}
 
--- ---- what is to do
-
-pub data Duty : Type 0 where
-  -- to push what this line of the source holds
-  push : List ℕ → Duty
-  -- where the store holds many rows, to cut and to flush them
-  keep_small : Duty
-  -- to ask this
-  ask : Request → Duty
-  -- to compact as long as blocks are joined, so many times at most
-  compact_all : ℕ → Duty
-
--- No store joins blocks so often, since each compaction that does takes a number for its new file: the laws
--- `compactions_come_to_an_end` and `an_ingest_finishes` say that this bound is never met.
-abbrev pub most_rounds : ℕ
-most_rounds = 4294967295
-
--- What is to do at the end.
-abbrev pub at_the_end : List Duty
-at_the_end = ask CutAll ∷ ask Flush ∷ compact_all most_rounds ∷ ask Reclaim ∷ []
-
--- What is to do from a line on: each line is pushed, but for those without bytes, and the store is kept small after each
--- push, refused or not, also where the line was refused in reading; and then what is to do at the end.
-abbrev pub from_lines : List (List ℕ) → List Duty
-from_lines [] = at_the_end
-from_lines ([] ∷ lines) = from_lines lines
-from_lines ((b ∷ bs) ∷ lines) = push (b ∷ bs) ∷ keep_small ∷ from_lines lines
-
--- The duties of an ingest of these lines: the store is kept small before the first one too.
-abbrev pub duties : List (List ℕ) → List Duty
-duties lines = keep_small ∷ from_lines lines
-
--- ---- what is asked
-
 -- So many rows outside of blocks are many.
 abbrev pub many_rows : ℕ
 many_rows = 131072
 
--- What is to do, as the store holds so many rows.
-abbrev pub due : ℕ → List Duty → List Duty
-due held (keep_small ∷ later) = if nat_le many_rows held then ask CutAll ∷ ask Flush ∷ later else due held later
-due held (compact_all times ∷ later) = if times == 0 then due held later else compact_all times ∷ later
-due held todo = todo
-
-abbrev pub due_at : At → List Duty → List Duty
-due_at at todo = due (held_of at.machine.state) todo
-
 abbrev pub is_joined : Reply → Bool
 is_joined (Compacted blocks rows) = true
 is_joined _ = false
+
+-- ---- parts of an ingest
+
+-- Where an ingest stands: the store, and the moments that the clock has to tell.
+pub record Stand : Type 0 where
+  pub store : At
+  pub moments : Option (List ℕ)
+
+-- A part of an ingest came to its end, or the run stopped in it.
+pub data Far : Type 0 where
+  whole : Far
+  stopped : Far
+
+-- A part: what it asks and is answered, from where it begins to where it comes, and how far that is.
+abbrev pub Part : Type 1
+Part = Stand → List Item → List Reply → Stand → Far → Type 0
+
+-- nothing is asked
+abbrev pub AsksNothing : Stand → List Item → List Reply → Stand → Type 0
+AsksNothing before items replies after = (items ≡ []) × (replies ≡ []) × (after ≡ before)
+
+-- One part after the other; or the run stopped in the first.
+abbrev pub Then : Part → Part → Stand → List Item → List Reply → Stand → Far → Type 0
+Then first next before items replies after far =
+    (first before items replies after stopped × (far ≡ stopped))
+    ⊎ ((between : Stand) × (xs ys : List Item) × (rs ss : List Reply) × (items ≡ xs ++ ys) × (replies ≡ rs ++ ss)
+    × first before xs rs between whole × next between ys ss after far)
+
+-- This is asked, and answered; or the run stopped before it.
+abbrev pub Asks : Bool → Request → Stand → List Item → List Reply → Stand → Far → Type 0
+Asks sure request before items replies after far =
+    (AsksNothing before items replies after × (far ≡ stopped))
+    ⊎ ((reply : Reply) × (items ≡ Ok request ∷ []) × (replies ≡ reply ∷ [])
+    × IsAnsweredOrRefused sure (Ok request) before.store reply after.store × (after.moments ≡ before.moments))
+
+-- ---- the lines
+
+-- The push of a line is asked, read at the clock's next moment, and answered; or the run stopped before it.
+abbrev pub AsksLine : Bool → List ℕ → Stand → List Item → List Reply → Stand → Far → Type 0
+AsksLine sure line before items replies after far =
+    (AsksNothing before items replies after × (far ≡ stopped))
+    ⊎ ((moment : ℕ) × (item : Item) × (reply : Reply) × IsNextMoment before.moments moment × AsksPush moment line item
+    × (items ≡ item ∷ []) × (replies ≡ reply ∷ [])
+    × IsAnsweredOrRefused sure item before.store reply after.store × (after.moments ≡ after_moment before.moments))
+
+-- The store is kept small: where it holds many rows they are cut and flushed.
+abbrev pub KeptSmall : Bool → Stand → List Item → List Reply → Stand → Far → Type 0
+KeptSmall sure before items replies after far =
+    ((held_of before.store.machine.state < many_rows) × AsksNothing before items replies after)
+    ⊎ ((many_rows ≤ held_of before.store.machine.state) × Then (Asks sure CutAll) (Asks sure Flush) before items replies after far)
+
+-- Each line is pushed, but for those without bytes, and the store is kept small after it, also where the push was refused.
+abbrev pub LinesPushed : Bool → List (List ℕ) → Stand → List Item → List Reply → Stand → Far → Type 0
+LinesPushed sure [] before items replies after far = AsksNothing before items replies after
+LinesPushed sure ([] ∷ lines) before items replies after far = LinesPushed sure lines before items replies after far
+LinesPushed sure ((b ∷ bs) ∷ lines) before items replies after far =
+    Then (Then (AsksLine sure (b ∷ bs)) (KeptSmall sure)) (LinesPushed sure lines) before items replies after far
+
+-- ---- the end
+
+-- Compactions, until one joins no blocks; or the run stopped before that.
+abbrev pub Compacts : Bool → Stand → List Item → List Reply → Stand → Far → Type 0
+Compacts sure before [] replies after far = (replies ≡ []) × (after ≡ before) × (far ≡ stopped)
+Compacts sure before (item ∷ items) [] after far = ⊥
+Compacts sure before (item ∷ items) (reply ∷ replies) after far =
+    (item ≡ Ok Compact) × (between : Stand) × IsAnsweredOrRefused sure item before.store reply between.store
+    × (between.moments ≡ before.moments)
+    × (((is_joined reply ≡ true) × Compacts sure between items replies after far)
+    ⊎ ((is_joined reply ≡ false) × AsksNothing between items replies after))
+
+-- All rows are cut and flushed, blocks are joined as long as some are, and loose files are emptied.
+abbrev pub AtTheEnd : Bool → Stand → List Item → List Reply → Stand → Far → Type 0
+AtTheEnd sure = Then (Asks sure CutAll) (Then (Asks sure Flush) (Then (Compacts sure) (Asks sure Reclaim)))
+
+-- ---- an ingest
+
+-- The store is kept small and the lines are pushed, and nothing is done for the end.
+abbrev pub Pushes : Bool → List (List ℕ) → Stand → List Item → List Reply → Stand → Type 0
+Pushes sure lines before items replies after = Then (KeptSmall sure) (LinesPushed sure lines) before items replies after whole
+
+-- An ingest of these lines, to its end or as far as it came.
+abbrev pub Ingests : Bool → List (List ℕ) → Stand → List Item → List Reply → Stand → Far → Type 0
+Ingests sure lines = Then (KeptSmall sure) (Then (LinesPushed sure lines) (AtTheEnd sure))
+
+-- ---- what it asked last
 
 -- Compactions, each of which joined blocks.
 abbrev pub AreJoined : List Item → List Reply → Type 0
@@ -84,28 +126,3 @@ pub record HasFinished (items : List Item) (replies : List Reply) : Type 0 where
   pub told : replies ≡ told_earlier ++ cut ∷ flushed ∷ (joined ++ last ∷ emptied ∷ [])
   pub are_joined : AreJoined compactions joined
   pub not_joined : is_joined last ≡ false
-
--- By what is due this is asked next; after this reply the rest is to do, and the clock has the rest of its moments to
--- tell. A line is read at the clock's next moment.
-abbrev pub IsDue : List Duty → Option (List ℕ) → Item → Reply → List Duty → Option (List ℕ) → Type 0
-IsDue (push line ∷ later) told item reply todo to_tell =
-    ((moment : ℕ) × IsNextMoment told moment × AsksPush moment line item)
-    × (todo ≡ later) × (to_tell ≡ after_moment told)
-IsDue (ask request ∷ later) told item reply todo to_tell = (item ≡ Ok request) × (todo ≡ later) × (to_tell ≡ told)
-IsDue (compact_all times ∷ later) told item reply todo to_tell =
-    (item ≡ Ok Compact) × (to_tell ≡ told)
-    × (todo ≡ (if is_joined reply then compact_all (times - 1) ∷ later else later))
-IsDue _ told item reply todo to_tell = ⊥
-
--- What is due is asked, and answered in order, from a store to a store; and that is left to do then, with or without a
--- look at what is due of it. `sure` says that what the blocks hold is told, and `told` and `to_tell` are what the clock
--- has to tell before and after.
-abbrev pub Ingests : Bool → List Duty → Option (List ℕ) → At → List Item → List Reply → At → List Duty
-    → Option (List ℕ) → Type 0
-Ingests sure todo told before [] replies after left to_tell =
-    (replies ≡ []) × (after ≡ before) × ((left ≡ todo) ⊎ (left ≡ due_at before todo)) × (to_tell ≡ told)
-Ingests sure todo told before (item ∷ items) [] after left to_tell = ⊥
-Ingests sure todo told before (item ∷ items) (reply ∷ replies) after left to_tell =
-    (between : At) × (later : List Duty) × (told_later : Option (List ℕ))
-    × IsDue (due_at before todo) told item reply later told_later × IsAnsweredOrRefused sure item before reply between
-    × Ingests sure later told_later between items replies after left to_tell

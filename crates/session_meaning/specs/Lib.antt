@@ -3,8 +3,10 @@ pub mod Asked
 pub mod Statuses
 pub mod Rounds
 pub mod Upkeep
+pub mod InOrder
 pub mod Session
 pub mod Ingest
+pub mod Duties
 pub mod Pushes
 pub mod Causes
 pub mod Answering

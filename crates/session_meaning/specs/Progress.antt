@@ -1,4 +1,4 @@
--- The loop over lines: how far a session came. Of it the laws on cores cite `AreAnsweredOver` and `IngestsOver`; the rest is
+-- The loop over lines: how far a session came. Of it the laws on cores cite `AreAnsweredOver` and `FollowsOver`; the rest is
 -- private mechanism.
 use Rattle.std.specs.Prelude.{◌≡◌, ◌⊎◌, ℕ, List, [], ◌∷◌, ◌++◌, Option, Ok, Err}
 use Rattle.disk_model.specs.declared.disk.Device.{Ghosts}
@@ -14,7 +14,8 @@ use Rattle.store_state.specs.Made.{AreMade, Call}
 use Rattle.client_run.specs.Answers.{HasReplied}
 use Rattle.session_meaning.specs.Asked.{AreAsked, after_lines}
 use Rattle.session_meaning.specs.Answering.{AreItemsAnswered, IsItemAnswered}
-use Rattle.session_meaning.specs.Ingest.{Duty, IsDue, due}
+use Rattle.session_meaning.specs.Duties.{Duty, IsDue, due}
+use Rattle.session_meaning.specs.InOrder.{InOrder}
 
 -- The lines of `text` before `rest` asked this, where these texts were refused. `told` is what the clock had to give at first,
 -- and `to_tell` what it has to give now.
@@ -33,10 +34,7 @@ IsAnsweredOver meaning before (Err why) reply after = (reply ≡ Refused why) ×
 
 -- Each was, in order, one reply each.
 abbrev pub AreAnsweredOver : {P : Type 0} → Meaning P → P → List Item → List Reply → P → Type 0
-AreAnsweredOver meaning before [] replies after = (replies ≡ []) × (after ≡ before)
-AreAnsweredOver meaning before (item ∷ items) [] after = ⊥
-AreAnsweredOver {P} meaning before (item ∷ items) (reply ∷ replies) after =
-    (between : P) × IsAnsweredOver meaning before item reply between × AreAnsweredOver meaning between items replies after
+AreAnsweredOver meaning = InOrder (λ item before reply after. IsAnsweredOver meaning before item reply after)
 
 -- This was answered so over a port from `start` on, by these calls and no others.
 pub record HasAnsweredOver {P : Type 0} (meaning : Meaning P) (start : P) (items : List Item) (replies : List Reply) (port : P) : Type 0 where
@@ -56,11 +54,11 @@ pub record HasAnsweredOne {P : Type 0} (meaning : Meaning P) (before : P) (item 
 
 -- What was due was asked over a core and answered in order, and that is left to do. What the core's memory holds says what is due, and
 -- at the end it may have been looked at or not.
-abbrev pub IngestsOver : {D : Type 0} → Ghosts D → List Duty → Option (List ℕ) → Core D → List Item → List Reply → Core D → List Duty
+abbrev pub FollowsOver : {D : Type 0} → Ghosts D → List Duty → Option (List ℕ) → Core D → List Item → List Reply → Core D → List Duty
     → Option (List ℕ) → Type 0
-IngestsOver g todo told before [] replies after left to_tell =
+FollowsOver g todo told before [] replies after left to_tell =
     (replies ≡ []) × (after ≡ before) × ((left ≡ todo) ⊎ (left ≡ due (held_in before) todo)) × (to_tell ≡ told)
-IngestsOver g todo told before (item ∷ items) [] after left to_tell = ⊥
-IngestsOver {D} g todo told before (item ∷ items) (reply ∷ replies) after left to_tell =
+FollowsOver g todo told before (item ∷ items) [] after left to_tell = ⊥
+FollowsOver {D} g todo told before (item ∷ items) (reply ∷ replies) after left to_tell =
     (between : Core D) × (later : List Duty) × (told_later : Option (List ℕ)) × IsDue (due (held_in before) todo) told item reply later told_later
-    × IsAnsweredOver (port_of g) before item reply between × IngestsOver g later told_later between items replies after left to_tell
+    × IsAnsweredOver (port_of g) before item reply between × FollowsOver g later told_later between items replies after left to_tell

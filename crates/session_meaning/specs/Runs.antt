@@ -22,7 +22,8 @@ use Rattle.session_meaning.specs.declared.ending.Ending.{Ending}
 use Rattle.session_meaning.specs.declared.ending.Ending.TheVariants.{Answered, BadWords, NotOpened, NotStore, ReadFault, Refused, Spent, Starved, WriteFault}
 use Rattle.session_meaning.specs.Asked.{AreAsked, AsksNext, IsNextMoment, after_lines, after_moment}
 use Rattle.session_meaning.specs.At.{At, history_of}
-use Rattle.session_meaning.specs.Ingest.{Duty, Ingests, duties, from_lines}
+use Rattle.session_meaning.specs.Ingest.{Ingests, Pushes, Stand}
+use Rattle.session_meaning.specs.Ingest.Far.{stopped, whole}
 use Rattle.session_meaning.specs.Session.{Ends, EndsAlone, Session}
 
 -- What the outside tells at a moment: the bytes that the source has left and those that the sink has taken, the moments that
@@ -124,25 +125,24 @@ pub record HasRun (text before : List ℕ) (o : Outcome) (old new : Edges) : Typ
   pub clock : new.moments ≡ after_lines answered (after_moment old.moments)
   pub ends : Ends o.ending text later new.left before o.replies new.taken
 
--- How much of its duties an ingest left: none, where the input was read to its end and all replies were written; where the
--- source failed, or a run takes no more bytes, those from the first line on that wasn't pushed: nothing is done for the end
--- then. Where the sink failed or memory ran out it may have stopped at any of them.
-abbrev pub IsLeft : Ending → List (List ℕ) → List Duty → Type 0
-IsLeft Answered later left = left ≡ []
-IsLeft Refused later left = left ≡ []
-IsLeft ReadFault later left = left ≡ from_lines later
-IsLeft Spent later left = left ≡ from_lines later
-IsLeft _ later left = ⊤
+-- How far an ingest of these lines came by how it ended, having pushed the second ones of them: to its end, where the input was read to
+-- its end and all replies were written; where the source failed, or a run takes no more bytes, so many lines were pushed and nothing was
+-- done for the end; and where the sink failed or memory ran out, it may have stopped anywhere.
+abbrev pub CameSoFar : Bool → Ending → List (List ℕ) → List (List ℕ) → Stand → List Item → List Reply → Stand → Type 0
+CameSoFar sure Answered all pushed before items replies after = Ingests sure all before items replies after whole
+CameSoFar sure Refused all pushed before items replies after = Ingests sure all before items replies after whole
+CameSoFar sure ReadFault all pushed before items replies after = Pushes sure pushed before items replies after
+CameSoFar sure Spent all pushed before items replies after = Pushes sure pushed before items replies after
+CameSoFar sure _ all pushed before items replies after = Ingests sure all before items replies after stopped
 
--- An ingest that read `text`: what was due was asked, and the replies, and nothing else, stand written as the ending says.
+-- An ingest that read `text`: it was asked what an ingest asks, and the replies, and nothing else, stand written as the ending says.
 -- No pattern was made.
 pub record HasIngested (sure : Bool) (text before : List ℕ) (o : Outcome) (old new : Edges) : Type 0 where
   pub pushed : List (List ℕ)
   pub later : List (List ℕ)
   pub lines_are : lines text ≡ pushed ++ later
-  pub left : List Duty
-  pub asked : Ingests sure (duties (lines text)) (after_moment old.moments) o.first o.items o.replies o.last left new.moments
-  pub is_left : IsLeft o.ending later left
+  pub asked : CameSoFar sure o.ending (lines text) pushed (record { store = o.first; moments = after_moment old.moments }) o.items o.replies
+      (record { store = o.last; moments = new.moments })
   pub no_refused : o.refused ≡ []
   pub ends : Ends o.ending text later new.left before o.replies new.taken
 

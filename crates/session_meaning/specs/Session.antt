@@ -1,6 +1,7 @@
 -- What is asked in a session is answered in order, each at the store that what came before it left.
 use Rattle.std.specs.Prelude.{◌≡◌, ◌⊎◌, ℕ, ◌<◌, ◌≤◌, Bool, true, false, List, [], ◌∷◌, ◌++◌, length, take, Option, Some, Result, Ok, Err, if◌then◌else◌}
 use Rattle.std.specs.List.{list_any}
+use Rattle.std.specs.List.Sorted.{IsPermutation}
 use Rattle.io_edges.specs.Lines.{lines, taken_limit}
 use Rattle.io_edges.specs.Reader.{HasNoFeed}
 use Rattle.span_types.specs.declared.ids.TraceId.{TraceId}
@@ -23,6 +24,8 @@ use Rattle.session_text.specs.Replies.{reply_text}
 use Rattle.span_types.specs.declared.errors.Memory.{Memory}
 use Rattle.store_model.specs.History.{History, AreFirstIn, count_of, history_rows}
 use Rattle.store_model.specs.Event.{Event as event}
+use Rattle.store_images.specs.Stored.{SameFirsts}
+use Rattle.store_core.specs.Waiting.{rows_outside}
 use Rattle.store_state.specs.Replies.{count_reply, push_reply, reclaim_reply}
 use Rattle.store_state.specs.declared.errors.PushError.{PushError}
 use Rattle.store_state.specs.declared.errors.ReclaimError.{ReclaimError}
@@ -32,6 +35,7 @@ use Rattle.traceql_metrics.specs.Series.{AreSeries}
 use Rattle.client_run.specs.Answers.{asked_of, compact_reply, counted_of, cut_reply, flush_reply, pushed_reply, reclaimed_reply}
 use Rattle.session_meaning.specs.At.{At, IsStep, IsStill, IsUnchanged, history_of}
 use Rattle.session_meaning.specs.Causes.{HasQueryCause, is_disk_fault}
+use Rattle.session_meaning.specs.InOrder.{InOrder}
 use Rattle.session_meaning.specs.Rounds.{IsCompacted, IsFlushed}
 use Rattle.session_meaning.specs.declared.ending.Ending.{Ending}
 use Rattle.session_meaning.specs.declared.ending.Ending.TheVariants.{Answered, ReadFault, Spent, Starved, WriteFault}
@@ -43,21 +47,54 @@ use Rattle.session_meaning.specs.declared.ending.Ending.TheVariants as ending
 abbrev pub IsTraceIn : TraceId → History → List Row → Type 0
 IsTraceIn id history rows = IsFirstOf (rows_of_trace id (history_rows history)) rows
 
+-- These results answer what is asked, over these rows.
+abbrev pub AreResults : Asked → List Row → List TraceResult → Type 0
+AreResults asked rows results =
+    IsAnswer asked.checked.patterns (query_tree asked.checked.query) asked.range asked.limit asked.spans_per_set rows results
+
 -- What is found at a history if this is asked of a store: the answer to the search over the first occurrences of all spans in it.
 pub record IsFound (asked : Asked) (history : History) (results : List TraceResult) : Type 0 where
   pub rows : List Row
   pub firsts : AreFirstIn history rows
-  pub answer : IsAnswer asked.checked.patterns (query_tree asked.checked.query) asked.range asked.limit asked.spans_per_set rows results
+  pub answer : AreResults asked rows results
 
--- What a query tells is sure where what the blocks hold is told, which is what `told` says, or where the store lists no block.
+-- ---- what a query sees of the store
+
+-- What its blocks hold is sure where that is told, which is what `told` says, or where it lists no block.
 abbrev pub IsSure : Bool → At → Type 0
 IsSure told at = (told ≡ true) ⊎ (at.machine.state.blocks ≡ [])
+
+-- A query sees all rows that wait outside of blocks, in some order, and behind them rows of the blocks: none, where no block is listed.
+-- Where it is sure what the blocks hold, all these have the first occurrences of the history.
+pub record AreSeen (told : Bool) (at : At) (rows : List Row) : Type 0 where
+  pub outside : List Row
+  pub of_blocks : List Row
+  pub rows_are : rows ≡ outside ++ of_blocks
+  pub all_outside : IsPermutation (rows_outside at.machine.state) outside
+  pub no_block : at.machine.state.blocks ≡ [] → of_blocks ≡ []
+  pub sure : IsSure told at → SameFirsts rows (history_rows (history_of at))
+
+-- What a look-up is told: the first occurrences of the trace's spans in what it sees.
+pub record IsTraceSeen (told : Bool) (id : TraceId) (at : At) (rows : List Row) : Type 0 where
+  pub all : List Row
+  pub are_seen : AreSeen told at all
+  pub firsts : IsFirstOf (rows_of_trace id all) rows
+
+-- What a search is told: the answer over the first occurrences of all spans in what it sees.
+pub record IsFoundSeen (told : Bool) (asked : Asked) (at : At) (results : List TraceResult) : Type 0 where
+  pub all : List Row
+  pub are_seen : AreSeen told at all
+  pub rows : List Row
+  pub firsts : IsFirstOf all rows
+  pub answer : AreResults asked rows results
+
+-- ---- an answer
 
 -- What is asked is answered so, and leaves that.
 -- A push is a step of the store. Accepted, it is told how many pushes came before it, how many of its spans are kept and were
 -- rejected, and how much was skipped, and its spans are appended to the history. Refused, it is told a cause that holds.
--- A look-up is told how many pushes there were, and what it finds in all of them. So is a search; and a metrics query is told the
--- series of what is found for it. They change nothing.
+-- A look-up is told how many pushes there were, and what it finds in what it sees. So is a search; and a metrics query is told the
+-- series of what is found for it. They change nothing. Where it is sure what the blocks hold, that is what all pushes have.
 -- A cut is a step of the store that moves the rows of some traces to the head, and is told how many these are; or memory was
 -- wanted. A flush makes a block of rows that wait in the head, and is told how many it has, or that none waited, or why not. A
 -- compaction joins blocks, and is told how many these are and how many rows the new one has, or that no two fit together, or why not.
@@ -69,14 +106,14 @@ IsAnswered told (Ok (request.Push reading moment)) before reply after =
     (answer : Result ℕ PushError) × (reply ≡ pushed_reply reading answer)
     × IsStep before (event.Push reading.batch.spans moment) (push_reply answer) after
 IsAnswered told (Ok (request.Trace id)) before reply after =
-    (rows : List Row) × (IsSure told before → IsTraceIn id (history_of before) rows)
+    (rows : List Row) × IsTraceSeen told id before rows
     × (reply ≡ Traced (count_of (history_of before)) rows) × IsStill before after
 IsAnswered told (Ok (request.Search s)) before reply after =
-    (results : List TraceResult) × (IsSure told before → IsFound (asked_of s) (history_of before) results)
+    (results : List TraceResult) × IsFoundSeen told (asked_of s) before results
     × (reply ≡ Searched (count_of (history_of before)) (printed_fields (query_tree s.checked.query)) results)
     × IsStill before after
 IsAnswered told (Ok (request.Metrics m)) before reply after =
-    (results : List TraceResult) × (series : List Series) × (IsSure told before → IsFound (counted_of m) (history_of before) results)
+    (results : List TraceResult) × (series : List Series) × IsFoundSeen told (counted_of m) before results
     × AreSeries results m.start m.end m.step m.rate series × (reply ≡ Measured (count_of (history_of before)) series)
     × IsStill before after
 IsAnswered told (Ok (request.Cut moment)) before reply after =
@@ -108,10 +145,7 @@ IsAnsweredOrRefused told item before reply after = IsAnswered told item before r
 
 -- What is asked is answered in order, one reply each, from a store to a store.
 abbrev pub Session : Bool → At → List Item → List Reply → At → Type 0
-Session told before [] replies after = (replies ≡ []) × (after ≡ before)
-Session told before (item ∷ items) [] after = ⊥
-Session told before (item ∷ items) (reply ∷ replies) after =
-    (between : At) × IsAnsweredOrRefused told item before reply between × Session told between items replies after
+Session told = InOrder (IsAnsweredOrRefused told)
 
 -- ---- how a session ends, and what stands written
 

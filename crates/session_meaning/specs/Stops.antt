@@ -1,13 +1,20 @@
--- What is stored, in what a run leaves and whenever it is stopped.
-use Rattle.std.specs.Prelude.{◌≡◌, ◌⊎◌, ℕ, [], Option, IsTrue}
+-- What is stored and what upkeep has left, after a run and whenever it is stopped.
+use Rattle.std.specs.Prelude.{◌≡◌, ◌⊎◌, ℕ, List, [], map, Option, None, Some, IsTrue}
 use Rattle.span_types.specs.First.{IsFirstOf}
+use Rattle.span_types.specs.declared.spans.Span.{Span}
 use Rattle.disk_model.specs.Images.{Image}
 use Rattle.disk_model.specs.Crash.{Reached}
 use Rattle.disk_model.specs.declared.disk.Device.{Ghosts}
+use Rattle.block_list.specs.Slots.{ImageHoldsList}
+use Rattle.block_list.specs.declared.body.ListBody.{ListBody}
 use Rattle.store_entries.specs.declared.entry.Entry.{Entry}
 use Rattle.store_model.specs.History.{count_of}
-use Rattle.store_images.specs.Stored.{ImageStandsFor, KeepsStored, MayStandFor}
-use Rattle.store_core.specs.Opening.{BeginsAs}
+use Rattle.store_model.specs.State.{State}
+use Rattle.store_images.specs.Log.{LogHolds}
+use Rattle.store_images.specs.Stored.{BlocksStand, ImageStandsFor, IsTidy, KeepsStored, MayStandFor, first_number, ref_of}
+use Rattle.store_core.specs.Cores.{segment_of}
+use Rattle.store_core.specs.InUse.{AreInUse}
+use Rattle.store_core.specs.Opening.{BeginsAs, opened_state}
 use Rattle.store_core.specs.Past.{StoodFor}
 use Rattle.session_meaning.specs.At.{At, history_of}
 use Rattle.session_meaning.specs.Pushes.{unsure_entry}
@@ -44,11 +51,49 @@ abbrev pub Leaves : (Image → Type 0) → (Image → Type 0) → Outcome → Ty
 Leaves at_start since o =
     (image : Image) → since image → Reached KeepsStored at_start image ⊎ (IsTrue o.opened × StandsWithin o image)
 
+-- ---- upkeep
+
+-- The image lists the state: the list that counts in it names the state's blocks, segments and floor, and the blocks' files stand for
+-- their rows. Each file that the list names, or that was given out since, is one of the state's: a segment's or a block's, a loose one,
+-- or an open job's.
+pub record ListsState (image : Image) (u : State) : Type 0 where
+  pub list : ListBody
+  pub counts : ImageHoldsList image (Some list)
+  pub blocks : list.blocks ≡ map ref_of u.blocks
+  pub built : BlocksStand image u.blocks
+  pub segments : u.segments ≡ map segment_of list.segments
+  pub floor : u.floor ≡ list.floor
+  pub used : AreInUse list u
+
+-- Each of these images lists the last state.
+abbrev pub ListsLast : (Image → Type 0) → Outcome → Type 0
+ListsLast may_leave o = (image : Image) → may_leave image → ListsState image o.last.machine.state
+
+-- In each of these images a file has bytes only where the list that counts names it, as far as files were given out.
+abbrev pub AreTidy : (Image → Type 0) → Type 0
+AreTidy images = (image : Image) → images image → IsTidy image
+
+-- A store that was opened on an image that lists the state begins in this one: with that state's blocks, segments and floor, with the
+-- rows of the log from the floor on, and with no loose file and no job.
+pub record BeginsListed (image : Image) (u : State) (moment : ℕ) (first : State) : Type 0 where
+  pub lists : ListsState image u
+  pub batches : List (List Span)
+  pub logged : LogHolds image lists.list.segments (first_number lists.list) batches
+  pub begins : first ≡ opened_state lists.list u.blocks batches moment
+  pub blocks : first.blocks ≡ u.blocks
+  pub segments : first.segments ≡ u.segments
+  pub floor : first.floor ≡ u.floor
+
+-- ---- a run
+
 -- A run over a disk that shows its bytes, which were a store's. Where the store was opened the run begins with what they store,
--- and each image that a crash may leave of the disk that is handed back stands for that and all pushes that were accepted. Each
--- image that a crash may have left at any moment of the run keeps what was stored at its start, or stands for that and the first
--- few of these pushes.
+-- and each image that a crash may leave of the disk that is handed back stands for that and all pushes that were accepted. If the
+-- store writes at the end, each such image lists its last state: what upkeep was told to have done stands on the disk, and no more.
+-- Each image that a crash may have left at any moment of the run keeps what was stored at its start, or stands for that and the first
+-- few of these pushes; and it is tidy where all were at the start.
 pub record Recovers {D : Type 0} (g : Ghosts D) (disk later : D) (o : Outcome) : Type 0 where
   pub begins : IsTrue o.opened → Begins (g.held disk) o.moment o.first
   pub returned : IsTrue o.opened → Returns (g.may_leave later) o
+  pub kept_up : IsTrue o.opened → o.last.machine.read_only ≡ None → ListsLast (g.may_leave later) o
   pub any_moment : Leaves (g.may_leave disk) (g.left_since later (g.moment disk)) o
+  pub tidy : AreTidy (g.may_leave disk) → AreTidy (g.left_since later (g.moment disk))

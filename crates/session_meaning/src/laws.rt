@@ -3,18 +3,24 @@
 //!
 //! Each function has an empty body: its contract is the statement, and its proof stands in `proofs/laws/`. `headline`
 //! calls `pushes_have_their_causes` to have its contract, and nothing calls the others; proofs of `headline` and
-//! `trace_shell` cite the lemmas of some. The parameters name a core, before and after.
+//! `trace_shell` cite the lemmas of some. The parameters name a core, before and after, or the disks of two runs.
 
 ghost use Rattle.std.specs.Prelude.{Bool, IsTrue, true, ◌≡◌, ◌≢◌, ◌⊎◌, ◌<◌, ◌≤◌, ◌+◌, ◌++◌, List, [], ◌∷◌, Option, Some, None, Ok, false, length, take, ℕ};
 ghost use Rattle.std.specs.List.{Contains, list_any};
 ghost use Rattle.command_words.specs.Commands.{Command, Spells};
 ghost use Rattle.disk_model.specs.Counts.{RoseBy};
-ghost use Rattle.disk_model.specs.Images.{Image};
+ghost use Rattle.disk_model.specs.Crash.{LeavesOnly};
+ghost use Rattle.disk_model.specs.Images.{Image, bytes_of};
 ghost use Rattle.compactor.specs.Rounds.{IsCompactRound};
 ghost use Rattle.flusher.specs.Rounds.{IsFlushRound};
 ghost use Rattle.span_types.specs.Faults.{Rose};
 ghost use Rattle.span_types.specs.First.{IsFirstOf};
+ghost use Rattle.span_types.specs.Keys.{row_key};
+ghost use Rattle.span_types.specs.declared.ids.TraceId.{TraceId};
 ghost use Rattle.span_types.specs.declared.spans.Row.{Row};
+ghost use Rattle.rows_by_trace.specs.Traces.{is_of_trace};
+ghost use Rattle.query_fanout.specs.declared.searching.Asked.{Asked};
+ghost use Rattle.spanset_eval.specs.declared.results.TraceResult.{TraceResult};
 ghost use Rattle.otlp_spans.specs.declared.read.Reading.{Reading};
 ghost use Rattle.session_text.specs.declared.refusal.Refusal.{Refusal};
 ghost use Rattle.session_text.specs.declared.reply.Reply.{Reply};
@@ -26,12 +32,16 @@ ghost use Rattle.store_model.specs.Choice.{choice};
 ghost use Rattle.store_model.specs.Event.Event.{BeginCompact};
 ghost use Rattle.store_model.specs.History.{History, count_of, grown};
 ghost use Rattle.store_model.specs.Laws.{Agrees};
-ghost use Rattle.store_images.specs.Stored.{ImageStandsFor, MayStandFor};
-ghost use Rattle.store_core.specs.Cores.{CoreShows};
+ghost use Rattle.store_model.specs.Sound.{uses};
+ghost use Rattle.store_model.specs.State.{State};
+ghost use Rattle.store_images.specs.Stored.{ImageStandsFor, IsTidy, MayStandFor};
+ghost use Rattle.store_core.specs.Cores.{CoreShows, CoreStandsFor};
+ghost use Rattle.store_core.specs.Opening.{BeginsAs};
 ghost use Rattle.store_core.specs.Past.{StandsSince};
 ghost use Rattle.store_core.specs.Port.{port_of};
+ghost use Rattle.store_core.specs.Waiting.{rows_outside};
 ghost use Rattle.store_model.specs.Step.{Machine};
-ghost use Rattle.store_state.specs.Made.{Call};
+ghost use Rattle.store_state.specs.Made.{AreMade, Call};
 ghost use Rattle.store_state.specs.declared.rounds.Refusal.{Refusal as Cause};
 ghost use Rattle.store_state.specs.declared.rounds.Round.{Round};
 ghost use Rattle.store_state.specs.declared.rounds.Round.TheVariants.{Did, Nothing, Refused as IsRefused};
@@ -39,20 +49,22 @@ ghost use Rattle.session_meaning.specs.Answering.{AreItemsAnswered, CallsLead, I
 ghost use Rattle.session_meaning.specs.Causes.{HasCompactCause, HasFlushCause, HasPushCause, HasWriteCause, blames_disk, disk_faults};
 ghost use Rattle.session_meaning.specs.Rounds.{HasJoined, HasListed, IsCompacted, IsDoneOrStarved, IsFlushed, IsRound};
 ghost use Rattle.session_meaning.specs.declared.ending.Ending.TheVariants.{Answered, NotOpened, Starved};
-ghost use Rattle.session_meaning.specs.Progress.{AreAnsweredOver, IngestsOver};
+ghost use Rattle.session_meaning.specs.Progress.{AreAnsweredOver, FollowsOver};
 ghost use Rattle.session_meaning.specs.Pushes.{HasRoomFor, HasRoomForPush, accepted_entries, known_pushes};
 ghost use Rattle.session_meaning.specs.Runs.{ComesToItsEnd, Edges, GoesWell, IsRunOf, Outcome, TellsAll};
 ghost use Rattle.session_meaning.specs.At.{At, IsStill, history_of};
-ghost use Rattle.session_meaning.specs.Ingest.{AreJoined, Duty, HasFinished, Ingests, duties, most_rounds};
-ghost use Rattle.session_meaning.specs.Session.{IsAnswered, IsAnsweredOrRefused, Session, is_refused};
-ghost use Rattle.session_meaning.specs.Stops.{StandsForLast, StandsWithin, unsure_of_run};
+ghost use Rattle.session_meaning.specs.Duties.{Duty, Follows, duties, from_lines};
+ghost use Rattle.session_meaning.specs.Ingest.{AreJoined, Far, HasFinished, Ingests, Pushes, Stand};
+ghost use Rattle.session_meaning.specs.Ingest.Far.{stopped, whole};
+ghost use Rattle.session_meaning.specs.Session.{IsAnswered, IsAnsweredOrRefused, IsFound, IsFoundSeen, IsSure, IsTraceIn, IsTraceSeen, Session, is_refused};
+ghost use Rattle.session_meaning.specs.Stops.{AreTidy, BeginsListed, ListsState, Recovers, StandsForLast, StandsWithin, unsure_of_run};
 ghost use Rattle.session_meaning.specs.Upkeep.{HasEmptied, HasFailedSince, IsClosed};
 
 use disk_model::Device;
 use store_core::Core;
 
-/// What is answered by calls of a store is answered as the history says, but that what queries tell isn't said where
-/// the store lists blocks: the machine of the store, with its logs and pins, tells no more than the pushes do.
+/// What is answered by calls of a store is answered as the history says, but that of the rows which queries see in
+/// blocks nothing is said: the machine of the store, with its logs and pins, tells no more than the pushes do.
 pub fn calls_answer_as_the_history_says()
     ensures item { (item : Item) (before after : At) (reply : Reply) → Agrees before.machine
         → IsAnsweredByCalls item before reply after → IsAnsweredOrRefused false item before reply after }
@@ -63,8 +75,8 @@ pub fn calls_answer_as_the_history_says()
 
 /// What is answered over the port of a core is a session.
 pub fn a_core_answers_as_the_history_says<D: Device>(old: &Core<D>, new: &Core<D>)
-    // From a machine on that its memory shows, whatever its disk holds, to one that it shows then. What queries tell
-    // isn't said where the store lists blocks.
+    // From a machine on that its memory shows, whatever its disk holds, to one that it shows then. Of the rows which
+    // queries see in blocks nothing is said.
     ensures shown { (items : List Item) (replies : List Reply)
         → AreAnsweredOver (port_of D.Device.own) old.now items replies new.now → (m : Machine)
         → CoreShows D.Device.own old.now m → (later : Machine) × CoreShows D.Device.own new.now later
@@ -78,18 +90,40 @@ pub fn a_core_answers_as_the_history_says<D: Device>(old: &Core<D>, new: &Core<D
         × Session true (at_core D.Device.own old.now m) items replies (at_core D.Device.own new.now later) }
 {}
 
-/// What is asked of a core by the duties of an ingest is an ingest: from a machine on that its memory shows, or for
+/// What is asked of a core by the duties of an ingest follows them: from a machine on that its memory shows, or for
 /// which it stands, as of a session.
 pub fn a_core_ingests_as_the_history_says<D: Device>(old: &Core<D>, new: &Core<D>)
     ensures shown { (todo left : List Duty) (told to_tell : Option (List ℕ)) (items : List Item) (replies : List Reply)
-        → IngestsOver D.Device.own todo told old.now items replies new.now left to_tell → (m : Machine)
+        → FollowsOver D.Device.own todo told old.now items replies new.now left to_tell → (m : Machine)
         → CoreShows D.Device.own old.now m → (later : Machine) × CoreShows D.Device.own new.now later
-        × Ingests false todo told (at_core D.Device.own old.now m) items replies (at_core D.Device.own new.now later) left to_tell }
+        × Follows false todo told (at_core D.Device.own old.now m) items replies (at_core D.Device.own new.now later) left to_tell }
     ensures since { (todo left : List Duty) (told to_tell : Option (List ℕ)) (items : List Item) (replies : List Reply)
-        → IngestsOver D.Device.own todo told old.now items replies new.now left to_tell → (m : Machine)
+        → FollowsOver D.Device.own todo told old.now items replies new.now left to_tell → (m : Machine)
         → (start : D) (least : ℕ) → StandsSince D.Device.own start least old.now m → IsTrue (D.tells old.now.disk)
         → (later : Machine) × StandsSince D.Device.own start least new.now later
-        × Ingests true todo told (at_core D.Device.own old.now m) items replies (at_core D.Device.own new.now later) left to_tell }
+        × Follows true todo told (at_core D.Device.own old.now m) items replies (at_core D.Device.own new.now later) left to_tell }
+{}
+
+/// Whoever follows the duties of an ingest asks what an ingest asks.
+pub fn duties_make_an_ingest()
+    // As far as it came.
+    ensures stops { (sure : Bool) (source : List (List ℕ)) (told to_tell : Option (List ℕ)) (left : List Duty) (items : List Item)
+        → (replies : List Reply) (first last : At)
+        → Follows sure (duties source) told first items replies last left to_tell
+        → Ingests sure source (record { store = first; moments = told }) items replies
+        (record { store = last; moments = to_tell }) stopped }
+    // With nothing left, to its end.
+    ensures ends { (sure : Bool) (source : List (List ℕ)) (told to_tell : Option (List ℕ)) (items : List Item)
+        → (replies : List Reply) (first last : At)
+        → Follows sure (duties source) told first items replies last [] to_tell
+        → Ingests sure source (record { store = first; moments = told }) items replies
+        (record { store = last; moments = to_tell }) whole }
+    // With these lines left, and what is to do at the end, it pushed the lines before them.
+    ensures reads { (sure : Bool) (pushed later : List (List ℕ)) (told to_tell : Option (List ℕ)) (items : List Item)
+        → (replies : List Reply) (first last : At)
+        → Follows sure (duties (pushed ++ later)) told first items replies last (from_lines later) to_tell
+        → Pushes sure pushed (record { store = first; moments = told }) items replies
+        (record { store = last; moments = to_tell }) }
 {}
 
 /// A session keeps that the rows of the store are those of its history, and leaves no job open while the store writes.
@@ -130,6 +164,23 @@ pub fn replies_tell_the_history()
         → (number kept rejected skipped : ℕ)
         → Session told first items (earlier ++ Pushed number kept rejected skipped ∷ later) last
         → (reply : Reply) (known : ℕ) → Contains later reply → known_pushes reply ≡ Some known → number < known }
+{}
+
+/// What queries tell of what they see.
+pub fn queries_tell_what_they_see()
+    // Where it is sure what the blocks hold, a look-up is told what it finds at the history, and so is a search.
+    ensures traces { (told : Bool) (id : TraceId) (at : At) (rows : List Row) → IsSure told at
+        → IsTraceSeen told id at rows → IsTraceIn id (history_of at) rows }
+    ensures searches { (told : Bool) (asked : Asked) (at : At) (results : List TraceResult) → IsSure told at
+        → IsFoundSeen told asked at results → IsFound asked (history_of at) results }
+    // Whatever the blocks hold, no span that waits outside of them is missing: a look-up of its trace is told a row
+    // with its key, and a search is answered over one.
+    ensures waiting { (told : Bool) (id : TraceId) (at : At) (rows : List Row) (row : Row)
+        → IsTraceSeen told id at rows → Contains (rows_outside at.machine.state) row → is_of_trace id row ≡ true
+        → (x : Row) × Contains rows x × (row_key x ≡ row_key row) }
+    ensures searched { (told : Bool) (asked : Asked) (at : At) (results : List TraceResult) (row : Row)
+        → (seen : IsFoundSeen told asked at results) → Contains (rows_outside at.machine.state) row
+        → (x : Row) × Contains seen.rows x × (row_key x ≡ row_key row) }
 {}
 
 /// Which pushes are refused, and which are accepted.
@@ -183,17 +234,20 @@ pub fn comes_to_an_end()
 
 /// What an ingest asks is asked and answered as in a session, so all that is said of sessions is said of it.
 pub fn an_ingest_is_a_session()
-    ensures { (sure : Bool) (todo left : List Duty) (told to_tell : Option (List ℕ)) (items : List Item)
+    ensures as_far { (sure : Bool) (source : List (List ℕ)) (before after : Stand) (items : List Item) (replies : List Reply)
+        → (far : Far) → Ingests sure source before items replies after far → Session sure before.store items replies after.store }
+    ensures lines { (sure : Bool) (source : List (List ℕ)) (before after : Stand) (items : List Item) (replies : List Reply)
+        → Pushes sure source before items replies after → Session sure before.store items replies after.store }
+    ensures duties { (sure : Bool) (todo left : List Duty) (told to_tell : Option (List ℕ)) (items : List Item)
         → (replies : List Reply) (first last : At)
-        → Ingests sure todo told first items replies last left to_tell → Session sure first items replies last }
+        → Follows sure todo told first items replies last left to_tell → Session sure first items replies last }
 {}
 
-/// An ingest that did all has cut and flushed at its end, has compacted until a compaction joined no blocks, and then
+/// An ingest that came to its end has cut and flushed there, has compacted until a compaction joined no blocks, and then
 /// emptied loose files.
 pub fn an_ingest_finishes()
-    ensures { (sure : Bool) (source : List (List ℕ)) (told to_tell : Option (List ℕ)) (items : List Item)
-        → (replies : List Reply) (first last : At)
-        → Ingests sure (duties source) told first items replies last [] to_tell → HasFinished items replies }
+    ensures { (sure : Bool) (source : List (List ℕ)) (before after : Stand) (items : List Item) (replies : List Reply)
+        → Ingests sure source before items replies after whole → HasFinished items replies }
 {}
 
 /// What a flush makes of the store.
@@ -254,9 +308,9 @@ pub fn compactions_have_their_causes()
 
 /// Compactions one after another that each join blocks come to an end.
 pub fn compactions_come_to_an_end()
-    // There are fewer than an ingest makes at most, so it makes one that joins none.
+    // There are fewer than numbers of files. So an ingest comes to a compaction that joins none.
     ensures bounded { (told : Bool) (items : List Item) (replies : List Reply) (first last : At) → AreJoined items replies
-        → Session told first items replies last → length items < most_rounds }
+        → Session told first items replies last → length items < 4294967295 }
     // Each leaves fewer blocks.
     ensures fewer { (told : Bool) (items : List Item) (replies : List Reply) (first last : At) → AreJoined items replies
         → Session told first items replies last
@@ -271,4 +325,31 @@ pub fn reclaims_have_their_causes()
     // Else the store writes, and the reply says how many loose files no pin named: these are loose no more.
     ensures emptied { (told : Bool) (before after : At) (files : ℕ)
         → IsAnswered told (Ok Reclaim) before (Reclaimed files) after → HasEmptied before.machine files after.machine }
+{}
+
+/// What upkeep leaves on a disk that shows its bytes.
+pub fn upkeep_stands_on_the_disk<D: Device>(old: &Core<D>, new: &Core<D>)
+    // While a core writes, whatever a crash may leave lists the state for which the core stands.
+    ensures listed { (m : Machine) → CoreStandsFor D.Device.own old.now m → IsTrue (D.tells old.now.disk)
+        → m.read_only ≡ None → (image : Image) → D.may_leave old.now.disk image → ListsState image m.state }
+    // Where all that a crash could leave was tidy, it is so at each moment of the calls that are made on it.
+    ensures tidy { (calls : List Call) → AreMade (port_of D.Device.own) old.now calls new.now → (m : Machine)
+        → CoreStandsFor D.Device.own old.now m → IsTrue (D.tells old.now.disk) → AreTidy (D.may_leave old.now.disk)
+        → LeavesOnly D.moment D.left_since old.now.disk new.now.disk IsTidy }
+{}
+
+/// What the upkeep of a run left is there as the next one begins.
+pub fn the_next_run_begins_as_listed<D: Device>(begun: &D, left: &D, disk: &D, later: &D)
+    // A store that is opened on an image that lists a state begins with its blocks, segments and floor, and with the
+    // log's rows from the floor on.
+    ensures begins { (image : Image) (u : State) (h : History) (moment : ℕ) (m : Machine) → ListsState image u
+        → ImageStandsFor image h → BeginsAs image moment m → BeginsListed image u moment m.state }
+    // So does the next run on what an earlier one left that wrote to its end.
+    ensures next_run { (one next : Outcome) → Recovers D.Device.own begun.now left.now one
+        → Recovers D.Device.own disk.now later.now next → IsTrue one.opened → IsTrue next.opened
+        → one.last.machine.read_only ≡ None → D.may_leave left.now (D.held disk.now)
+        → BeginsListed (D.held disk.now) one.last.machine.state next.moment next.first.machine.state }
+    // In a tidy image that lists a state a file that was given out is empty, or it is one of the state's.
+    ensures in_use { (image : Image) (u : State) (file : ℕ) → ListsState image u → IsTidy image → 2 ≤ file
+        → file < u.next_file → (bytes_of image file ≡ []) ⊎ (1 ≤ uses file u) }
 {}

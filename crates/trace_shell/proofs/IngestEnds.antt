@@ -9,9 +9,9 @@ use Rattle.store_core.specs.Port.{port_of}
 use Rattle.store_core.specs.declared.store.Core.{Core}
 use Rattle.session_meaning.specs.declared.ending.Ending.{Ending}
 use Rattle.session_meaning.specs.declared.ending.Ending.TheVariants.{Answered, BadWords, NotOpened, NotStore, ReadFault, Refused, Spent, Starved, WriteFault}
-use Rattle.session_meaning.specs.Ingest.{Duty, at_the_end, duties, from_lines, keep_small}
-use Rattle.session_meaning.specs.Progress.{HasAnsweredOver, IngestsOver}
-use Rattle.session_meaning.specs.Runs.{IsLeft}
+use Rattle.session_meaning.specs.Duties.{Duty, at_the_end, duties, from_lines, keep_small}
+use Rattle.session_meaning.specs.Progress.{HasAnsweredOver, FollowsOver}
+use Rattle.session_meaning.specs.Duties.{IsLeft}
 use Rattle.session_meaning.proofs.SessionLaws.{over_then}
 use Rattle.session_meaning.specs.Session.{Ends, IsCutOff, is_for_memory, is_refusal, reply_texts}
 use Rattle.trace_shell.specs.Ingesting.{HasAsked, HasReadTo, HaveGiven, IsReadTo, IsStopped, Leaves, ended_by}
@@ -142,16 +142,16 @@ module _ {D : Type 0} (g : Ghosts D) (start core : Core D) (told to_tell : Optio
     (items : List Item) (replies : List Reply) (stopped : Option Ending) (old_is : old ≡ Some before)
     (asked : HasAsked g start core old new empty_tally tally items replies stopped) where
   abbrev Came : Ending → Type 0
-  Came e = CameByLines (λ todo rest. IngestsOver g todo told start items replies core rest to_tell) text before left new e replies
+  Came e = CameByLines (λ todo rest. FollowsOver g todo told start items replies core rest to_tell) text before left new e replies
 
   stands : Stands before replies new tally stopped
   stands = stands_by before replies old new tally stopped old_is asked.given
 
   -- The lines that were pushed, and those that are left, are those of the text.
-  of_text : (pushed later : List (List ℕ)) (todo : List Duty) → lines text ≡ pushed ++ later → IngestsOver g (duties (pushed ++ later)) told start items replies core todo to_tell
-      → IngestsOver g (duties (lines text)) told start items replies core todo to_tell
+  of_text : (pushed later : List (List ℕ)) (todo : List Duty) → lines text ≡ pushed ++ later → FollowsOver g (duties (pushed ++ later)) told start items replies core todo to_tell
+      → FollowsOver g (duties (lines text)) told start items replies core todo to_tell
   of_text pushed later todo lines_are over =
-      subst (λ (ls : List (List ℕ)). IngestsOver g (duties ls) told start items replies core todo to_tell) (sym lines_are) over
+      subst (λ (ls : List (List ℕ)). FollowsOver g (duties ls) told start items replies core todo to_tell) (sym lines_are) over
 
   came_early : (e : Ending) (pushed later : List (List ℕ)) → IsStopped (Some e) stopped → Leaves g start core (duties (pushed ++ later)) (from_lines later) told to_tell items replies stopped
       → lines text ≡ pushed ++ later → IsReadTo (Some e) text later left → Came e
@@ -187,7 +187,7 @@ module _ {D : Type 0} (g : Ghosts D) where
   Ran start core told to_tell source left old new e =
       (items : List Item) × (replies : List Reply) × HasAnsweredOver (port_of g) start items replies core
       × ((text before : List ℕ) → source ≡ Some text → old ≡ Some before
-      → CameByLines (λ todo rest. IngestsOver g todo told start items replies core rest to_tell) text before left new e replies)
+      → CameByLines (λ todo rest. FollowsOver g todo told start items replies core rest to_tell) text before left new e replies)
 
   -- The store was kept small, before any line.
   abbrev Kept : (start core : Core D) (old new : Option (List ℕ)) (tally_old tally : Tally) (o : Option Ending) → Type 0

@@ -16,8 +16,9 @@ use Rattle.store_core.specs.declared.store.Core.{Core}
 use Rattle.client_run.specs.Answers.{HasReplied}
 use Rattle.session_meaning.specs.declared.ending.Ending.{Ending}
 use Rattle.session_meaning.specs.Asked.{IsNextMoment, after_moment}
-use Rattle.session_meaning.specs.Ingest.{Duty, IsDue, ask, compact_all, due, from_lines, is_joined, keep_small, many_rows, most_rounds}
-use Rattle.session_meaning.specs.Progress.{HasAnsweredOne, HasAnsweredOver, IngestsOver}
+use Rattle.session_meaning.specs.Duties.{Duty, IsDue, ask, compact_all, due, from_lines, keep_small, most_rounds}
+use Rattle.session_meaning.specs.Ingest.{is_joined, many_rows}
+use Rattle.session_meaning.specs.Progress.{HasAnsweredOne, HasAnsweredOver, FollowsOver}
 use Rattle.session_meaning.proofs.IngestLaws.{ingests_then}
 use Rattle.session_meaning.proofs.SessionLaws.{one_refused, one_replied, over_begins, over_one, over_then}
 use Rattle.trace_shell.specs.Ingesting.{HasAsked, HaveGiven, IsLong, Leaves}
@@ -137,7 +138,7 @@ module _ {D : Type 0} (g : Ghosts D) where
   leaves_then first middle last todo mid later told between_told to_tell xs ys rs ss o stopped on one two = record {
     left = two.left;
     each = ingests_then g todo mid two.left told between_told to_tell xs ys rs ss first middle last
-        (subst (λ (t : List Duty). IngestsOver g todo told first xs rs middle t between_told) (one.all on) one.each) two.each;
+        (subst (λ (t : List Duty). FollowsOver g todo told first xs rs middle t between_told) (one.all on) one.each) two.each;
     all = two.all;
   }
 

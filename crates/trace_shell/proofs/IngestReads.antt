@@ -10,7 +10,7 @@ use Rattle.session_text.specs.Items.{Item}
 use Rattle.store_core.specs.declared.store.Core.{Core}
 use Rattle.session_meaning.specs.declared.ending.Ending.{Ending}
 use Rattle.session_meaning.specs.declared.ending.Ending.TheVariants.{ReadFault, Spent, Starved, WriteFault}
-use Rattle.session_meaning.specs.Ingest.{from_lines}
+use Rattle.session_meaning.specs.Duties.{from_lines}
 use Rattle.trace_shell.specs.Ingesting.{HasAsked, HasReadTo, IsLong, IsReadingAt, IsStopped, Leaves, ReadOn, ending_in, turn_of}
 use Rattle.trace_shell.specs.declared.ingesting.After.{After}
 use Rattle.trace_shell.specs.declared.ingesting.After.TheVariants as after

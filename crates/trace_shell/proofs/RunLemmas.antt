@@ -12,7 +12,7 @@ use Rattle.disk_model.specs.declared.disk.Device.{Ghosts}
 use Rattle.disk_model.proofs.Runs.{run_same}
 use Rattle.block_list.specs.Loading.{KeepsList}
 use Rattle.block_list.proofs.LoadLemmas.{keeps_same as list_same}
-use Rattle.io_edges.specs.Lines.{taken_limit}
+use Rattle.io_edges.specs.Lines.{lines, taken_limit}
 use Rattle.io_edges.specs.Reader.{TakesBytes}
 use Rattle.span_types.specs.Faults.{Rose}
 use Rattle.store_core.specs.NewCore.{new_machine}
@@ -28,6 +28,7 @@ use Rattle.session_meaning.specs.Runs.{Does, DoesInStore, Edges, FitsWords, HasA
 use Rattle.session_meaning.specs.At.{At}
 use Rattle.session_meaning.specs.Statuses.{status_of}
 use Rattle.session_meaning.specs.Stops.{Recovers}
+use Rattle.session_meaning.proofs.Following.{came_so_far}
 use Rattle.trace_shell.specs.Turn.{CameTo, HasDone, IsRefusedStore}
 
 -- ---- what is told or not
@@ -111,9 +112,7 @@ in_store sure ingest o old new (none, came) =
       pushed = w.pushed;
       later = w.later;
       lines_are = w.lines_are;
-      left = w.todo;
-      asked = w.asked;
-      is_left = w.is_left;
+      asked = came_so_far sure o.ending (lines text) w.pushed w.later (after_moment old.moments) new.moments o.items o.replies o.first o.last w.todo w.lines_are w.asked w.is_left;
       no_refused = none;
       ends = w.ends;
     }))
@@ -149,7 +148,9 @@ pub unopened_recovers : {D : Type 0} (g : Ghosts D) (disk later : D) (e : Ending
 unopened_recovers g disk later e kept = record {
   begins = λ opened. absurd (no_truth opened);
   returned = λ opened. absurd (no_truth opened);
+  kept_up = λ opened. absurd (no_truth opened);
   any_moment = λ image left. inl (kept image left);
+  tidy = λ at_first image left. (let was = kept image left in was.2.tidy (at_first was.0 was.1));
 }
 
 -- a disk that wasn't touched is left alone

@@ -2,6 +2,7 @@
 use Rattle.std.proofs.Common.{Bool, ◌≡◌, inl, inr, ⊎_elim, ℕ, ◌≤◌, List, [], Option, Some, None, true, IsTrue, refl, sym, ◌∙◌, ap, subst}
 use Rattle.std.specs.Prelude.{IfSome}
 use Rattle.command_words.specs.Commands.{Alone, Command, Ingest as ingest, Session as session}
+use Rattle.disk_model.specs.Crash.{Reached}
 use Rattle.disk_model.specs.Images.{Image}
 use Rattle.io_edges.specs.Lines.{lines}
 use Rattle.disk_model.specs.declared.disk.Device.{Ghosts}
@@ -11,7 +12,7 @@ use Rattle.store_entries.specs.declared.entry.Entry.{Entry}
 use Rattle.store_model.specs.History.{count_of}
 use Rattle.store_model.specs.Step.{Machine}
 use Rattle.store_state.specs.Cores.{CoreHolds}
-use Rattle.store_images.specs.Stored.{MayStandFor}
+use Rattle.store_images.specs.Stored.{IsTidy, KeepsStored, MayStandFor}
 use Rattle.store_images.proofs.Lists.{not_in_nil}
 use Rattle.store_core.specs.Cores.{CoreShows, CoreStandsFor, unsure_of}
 use Rattle.store_core.specs.Opening.{KeepsDisk, OpensAs, OpensOver, StoreBreaks}
@@ -24,13 +25,14 @@ use Rattle.client_run.proofs.CoreLemmas.{unsure_stepped}
 use Rattle.session_meaning.specs.declared.ending.Ending.{Ending}
 use Rattle.session_meaning.specs.Asked.{IsNextMoment, after_moment}
 use Rattle.session_meaning.specs.Answering.{at_core}
-use Rattle.session_meaning.specs.Ingest.{Duty, Ingests, duties}
-use Rattle.session_meaning.specs.Progress.{AreAnsweredOver, HasAnsweredOver, IngestsOver}
+use Rattle.session_meaning.specs.Duties.{Duty, Follows, duties}
+use Rattle.session_meaning.specs.Progress.{AreAnsweredOver, HasAnsweredOver, FollowsOver}
 use Rattle.session_meaning.proofs.IngestLaws.{ingest_is_session}
 use Rattle.session_meaning.specs.Pushes.{unsure_entry}
 use Rattle.session_meaning.specs.Runs.{Edges, HasCause, IsPastOpening, Outcome, told_bytes}
 use Rattle.session_meaning.specs.Session.{Session}
-use Rattle.session_meaning.specs.Stops.{Recovers}
+use Rattle.session_meaning.specs.Stops.{AreTidy, Recovers}
+use Rattle.session_meaning.proofs.OnDisk.{calls_tidy, lists_state}
 use Rattle.session_meaning.proofs.Unsure.{items_unsure}
 use Rattle.trace_shell.specs.Turn.{CameByLines, CameOver, CameTo, HasDone}
 use Rattle.trace_shell.proofs.RunLemmas.{if_told, in_store, past_is_no_fault}
@@ -65,8 +67,8 @@ module _ {D : Type 0} (g : Ghosts D) (is_with : Core D → Machine → Type 0) (
     (sessions : (items : List Item) (replies : List Reply) (first last : Core D) (m : Machine) → is_with first m → AreAnsweredOver (port_of g) first items replies last
     → (m' : Machine) × is_with last m' × Session sure (at_core g first m) items replies (at_core g last m'))
     (ingests : (todo : List Duty) (moments : Option (List ℕ)) (items : List Item) (replies : List Reply) (first last : Core D) (m : Machine) (left : List Duty) (to_tell : Option (List ℕ))
-    → is_with first m → IngestsOver g todo moments first items replies last left to_tell
-    → (m' : Machine) × is_with last m' × Ingests sure todo moments (at_core g first m) items replies (at_core g last m') left to_tell) where
+    → is_with first m → FollowsOver g todo moments first items replies last left to_tell
+    → (m' : Machine) × is_with last m' × Follows sure todo moments (at_core g first m) items replies (at_core g last m') left to_tell) where
   pub came_to : (c : Command) (core later : Core D) (m : Machine) (old_left old_taken told left taken to_tell : Option (List ℕ)) (e : Ending) (items : List Item) (replies : List Reply)
       (blamed : List (List ℕ)) → is_with core m → CameOver c g core later old_left old_taken told left taken to_tell e items replies blamed
       → (m' : Machine) × is_with later m' × Session sure (at_core g core m) items replies (at_core g later m')
@@ -80,7 +82,7 @@ module _ {D : Type 0} (g : Ghosts D) (is_with : Core D → Machine → Type 0) (
   came_to ingest core later m (Some text) (Some before) told left taken to_tell e items replies blamed stands came =
       let w = came.2 text before refl refl in
       let run = ingests (duties (lines text)) told items replies core later m w.todo to_tell stands w.asked in
-      let by_lines : CameByLines (λ todo rest. Ingests sure todo told (at_core g core m) items replies (at_core g later run.0) rest to_tell) text before left taken e replies = record {
+      let by_lines : CameByLines (λ todo rest. Follows sure todo told (at_core g core m) items replies (at_core g later run.0) rest to_tell) text before left taken e replies = record {
         pushed = w.pushed;
         later = w.later;
         lines_are = w.lines_are;
@@ -95,8 +97,8 @@ module _ {D : Type 0} (g : Ghosts D) (is_with : Core D → Machine → Type 0) (
         (
           came.1,
           λ all taken_before source sink.
-              subst (λ (t : List ℕ). CameByLines (λ todo rest. Ingests sure todo told (at_core g core m) items replies (at_core g later run.0) rest to_tell) t taken_before left taken e replies) (same text all source)
-              (subst (λ (b : List ℕ). CameByLines (λ todo rest. Ingests sure todo told (at_core g core m) items replies (at_core g later run.0) rest to_tell) text b left taken e replies) (same before taken_before sink) by_lines),
+              subst (λ (t : List ℕ). CameByLines (λ todo rest. Follows sure todo told (at_core g core m) items replies (at_core g later run.0) rest to_tell) t taken_before left taken e replies) (same text all source)
+              (subst (λ (b : List ℕ). CameByLines (λ todo rest. Follows sure todo told (at_core g core m) items replies (at_core g later run.0) rest to_tell) text b left taken e replies) (same before taken_before sink) by_lines),
         ),
       )
   came_to (Alone line) core later m old_left old_taken told left taken to_tell e items replies blamed stands came =
@@ -147,7 +149,9 @@ module _ {D : Type 0} (g : Ghosts D) (disk : D) (moment : ℕ) (core later : Cor
   }
 
   -- Over bytes that were a store's.
-  module _ (told : IsTrue (g.tells disk)) (founded : OpensAs g disk moment core first) where
+  module _ (counts_now : (disk : D) (start : ℕ) (image : Image) → start ≤ g.moment disk → g.may_leave disk image → g.left_since disk start image)
+      (only_now : (disk : D) (image : Image) → g.left_since disk (g.moment disk) image → g.may_leave disk image)
+      (told : IsTrue (g.tells disk)) (founded : OpensAs g disk moment core first) where
     stands_first : CoreStandsFor g core first
     stands_first = founded.stands
 
@@ -167,8 +171,17 @@ module _ {D : Type 0} (g : Ghosts D) (disk : D) (moment : ℕ) (core later : Cor
         let stored = founded.stored told in record {
           begins = λ opened. record { stored = stored.0; once = opens.once; base_alone = opens.base_alone; begins = stored.1 };
           returned = λ opened image left. subst (λ (u : Option Entry). MayStandFor last.history u image) unsure_is (since.stands.stands.now told_later image left);
+          kept_up = λ opened writes image left. lists_state g later last since.stands told_later writes image left;
           any_moment = λ image left.
               ⊎_elim (λ early. inl (kept.since.each image early))
               (λ stood. inr (refl, subst (λ (u : Option Entry). StoodFor (count_of first.history) last.history u image) unsure_is stood))
               ((since.past told_later).before (g.moment disk) image kept.since.later left);
+          tidy = λ at_first.
+              let run = calls_tidy g counts_now only_now core later over.calls over.made first stands_first (subst IsTrue (sym telling) told)
+              (λ image left. tidy_from at_first image (kept.now image left)) in
+              λ image left. ⊎_elim (λ early. tidy_from at_first image (kept.since.each image early)) (λ tidy. tidy)
+              (run.before (g.moment disk) image kept.since.later left);
         }
+      where
+        tidy_from : AreTidy (g.may_leave disk) → (image : Image) → Reached KeepsStored (g.may_leave disk) image → IsTidy image
+        tidy_from at_first image was = was.2.tidy (at_first was.0 was.1)

@@ -9,8 +9,8 @@ use Rattle.store_core.specs.Port.{port_of}
 use Rattle.store_core.specs.declared.store.Core.{Core}
 use Rattle.session_meaning.specs.declared.ending.Ending.{Ending}
 use Rattle.session_meaning.specs.declared.ending.Ending.TheVariants.{ReadFault, Spent, Starved, WriteFault}
-use Rattle.session_meaning.specs.Ingest.{Duty}
-use Rattle.session_meaning.specs.Progress.{HasAnsweredOver, IngestsOver}
+use Rattle.session_meaning.specs.Duties.{Duty}
+use Rattle.session_meaning.specs.Progress.{HasAnsweredOver, FollowsOver}
 use Rattle.session_meaning.specs.Session.{IsAllEnded}
 use Rattle.trace_shell.specs.Turn.{HasGiven, ending_of}
 use Rattle.trace_shell.specs.declared.ingesting.After.{After}
@@ -37,7 +37,7 @@ pub record HasAsked {D : Type 0} (g : Ghosts D) (before after : Core D) (old new
 pub record Leaves {D : Type 0} (g : Ghosts D) (before after : Core D) (todo later : List Duty)
     (told to_tell : Option (List ℕ)) (items : List Item) (replies : List Reply) (stopped : Option Ending) : Type 0 where
   pub left : List Duty
-  pub each : IngestsOver g todo told before items replies after left to_tell
+  pub each : FollowsOver g todo told before items replies after left to_tell
   pub all : stopped ≡ None → left ≡ later
 
 -- how a run ends that did all, or that ended before

@@ -19,9 +19,9 @@ use Rattle.session_meaning.specs.declared.ending.Ending.{Ending}
 use Rattle.session_meaning.specs.declared.ending.Ending.TheVariants.{Answered, BadWords, NotOpened, NotStore, Refused, Starved, WriteFault}
 use Rattle.session_meaning.specs.At.{At}
 use Rattle.session_meaning.specs.Asked.{AreAsked, AsksNext, after_lines, after_moment}
-use Rattle.session_meaning.specs.Ingest.{Duty, Ingests, duties}
-use Rattle.session_meaning.specs.Progress.{HasAnsweredOver, IngestsOver, Progress}
-use Rattle.session_meaning.specs.Runs.{Does, Edges, HasCause, IsLeft, NeedsNoSource, Outcome}
+use Rattle.session_meaning.specs.Duties.{Duty, Follows, IsLeft, duties}
+use Rattle.session_meaning.specs.Progress.{HasAnsweredOver, FollowsOver, Progress}
+use Rattle.session_meaning.specs.Runs.{Does, Edges, HasCause, NeedsNoSource, Outcome}
 use Rattle.session_meaning.specs.Session.{Ends, EndsAlone, Session, is_for_memory, is_refusal, reply_texts}
 use Rattle.trace_shell.specs.declared.session.Tally.{Tally}
 
@@ -93,7 +93,7 @@ CameOver session g start core old_left old_taken told left taken to_tell ending 
 CameOver ingest g start core old_left old_taken told left taken to_tell ending items replies blamed =
     HasAnsweredOver (port_of g) start items replies core × (blamed ≡ [])
     × ((text before : List ℕ) → old_left ≡ Some text → old_taken ≡ Some before
-    → CameByLines (λ todo rest. IngestsOver g todo told start items replies core rest to_tell) text before left taken
+    → CameByLines (λ todo rest. FollowsOver g todo told start items replies core rest to_tell) text before left taken
     ending replies)
 CameOver (Alone line) g start core old_left old_taken told left taken to_tell ending items replies blamed =
     HasAnsweredOver (port_of g) start items replies core
@@ -110,7 +110,7 @@ CameTo sure session first last old_left old_taken told left taken to_tell ending
 CameTo sure ingest first last old_left old_taken told left taken to_tell ending items replies blamed =
     (blamed ≡ [])
     × ((text before : List ℕ) → old_left ≡ Some text → old_taken ≡ Some before
-    → CameByLines (λ todo rest. Ingests sure todo told first items replies last rest to_tell) text before left taken
+    → CameByLines (λ todo rest. Follows sure todo told first items replies last rest to_tell) text before left taken
     ending replies)
 CameTo sure (Alone line) first last old_left old_taken told left taken to_tell ending items replies blamed =
     (item : Item) × (reply : Reply) × (items ≡ item ∷ []) × (replies ≡ reply ∷ []) × NeedsNoSource ending

@@ -14,8 +14,9 @@ ghost use Rattle.session_text.specs.declared.request.Request.TheVariants.{Compac
 ghost use Rattle.session_text.specs.Items.{Item};
 ghost use Rattle.session_text.specs.Requests.{AsksPush};
 ghost use Rattle.session_meaning.specs.declared.ending.Ending.TheVariants.{Answered, ReadFault, Refused, Spent, Starved, WriteFault};
-ghost use Rattle.session_meaning.specs.Ingest.{Duty, ask as to_ask, at_the_end, compact_all as to_compact_all, from_lines, is_joined, keep_small as to_keep_small, most_rounds};
-ghost use Rattle.session_meaning.specs.Progress.{HasAnsweredOne, HasAnsweredOver, IngestsOver};
+ghost use Rattle.session_meaning.specs.Duties.{Duty, ask as to_ask, at_the_end, compact_all as to_compact_all, from_lines, keep_small as to_keep_small, most_rounds};
+ghost use Rattle.session_meaning.specs.Ingest.{is_joined};
+ghost use Rattle.session_meaning.specs.Progress.{HasAnsweredOne, HasAnsweredOver, FollowsOver};
 ghost use Rattle.session_meaning.specs.Runs.{IsPastOpening};
 ghost use Rattle.trace_shell.specs.Turn.{CameByLines};
 ghost use Rattle.trace_shell.specs.Ingesting.{HasAsked, HasReadTo, HaveGiven, IsLong, IsReadingAt, IsStopped, Leaves, ReadOn, ended_by, ending_in, stopped_in, turn_of};
@@ -61,7 +62,7 @@ pub(crate) fn ingest<S: Source, K: Sink, D: Device, C: Clock, G: Gate>(
     ensures ran { (items : List Item) × (replies : List Reply)
         × HasAnsweredOver (port_of D.Device.own) core.old items replies core.new
         × ((text before : List ℕ) → S.left source.old ≡ Some text → K.taken sink.old ≡ Some before
-        → CameByLines (λ todo rest. IngestsOver D.Device.own todo (C.moments clock.old) core.old items replies
+        → CameByLines (λ todo rest. FollowsOver D.Device.own todo (C.moments clock.old) core.old items replies
         core.new rest
         (C.moments clock.new)) text before (S.left source.new) (K.taken sink.new) result replies) }
     ensures write_fault { result ≡ WriteFault → Rose (K.faults sink.old) (K.faults sink.new) }

@@ -66,8 +66,8 @@ pub fn run_alone<
     patterns: &mut P,
     gate: &G,
 ) -> Ended<D>
-    // What the words ask was done, the maker refused what the outcome says, and the status tells how it ended. Of a
-    // store that lists blocks it isn't said what queries tell.
+    // What the words ask was done, the maker refused what the outcome says, and the status tells how it ended. Queries
+    // tell of all rows outside of blocks; what they find in blocks isn't said.
     ensures ran { (o : Outcome) × RefusesOnly P.makes patterns.old patterns.new o.refused
         × IsRunOf false (map string_bytes words.now) o
         (edges S.left S.faults K.taken K.faults C.moments D.Device.own source.old sink.old clock.old disk)
@@ -75,7 +75,7 @@ pub fn run_alone<
         × (result.status ≡ status_of o.ending) }
     // Over a disk whose bytes are shown and are a store's: it was done from what they store on, queries tell of all
     // that was pushed, wherever it lies, and what is stored as the disk is handed back, or whenever the run is
-    // stopped, holds every push that was accepted by then.
+    // stopped, holds every push that was accepted by then. What upkeep was told to have done stands on the disk.
     ensures recovers { IsTrue (D.tells disk) → IsSoundImage (D.held disk)
         → (o : Outcome) × RefusesOnly P.makes patterns.old patterns.new o.refused
         × IsRunOf true (map string_bytes words.now) o
@@ -123,8 +123,8 @@ pub fn run<
     patterns: &mut P,
     gate: &G,
 ) -> Ended<D>
-    // What the words ask was done, the maker refused what the outcome says, and the status tells how it ended. Of a
-    // store that lists blocks it isn't said what queries tell.
+    // What the words ask was done, the maker refused what the outcome says, and the status tells how it ended. Queries
+    // tell of all rows outside of blocks; what they find in blocks isn't said.
     ensures ran { (o : Outcome) × RefusesOnly P.makes patterns.old patterns.new o.refused
         × IsRunOf false (map string_bytes words.now) o
         (edges S.left S.faults K.taken K.faults C.moments D.Device.own source.old sink.old clock.old disk)
@@ -132,7 +132,7 @@ pub fn run<
         × (result.status ≡ status_of o.ending) }
     // Over a disk whose bytes are shown and are a store's: it was done from what they store on, queries tell of all
     // that was pushed, wherever it lies, and what is stored as the disk is handed back, or whenever the run is
-    // stopped, holds every push that was accepted by then.
+    // stopped, holds every push that was accepted by then. What upkeep was told to have done stands on the disk.
     ensures recovers { IsTrue (D.tells disk) → IsSoundImage (D.held disk)
         → (o : Outcome) × RefusesOnly P.makes patterns.old patterns.new o.refused
         × IsRunOf true (map string_bytes words.now) o

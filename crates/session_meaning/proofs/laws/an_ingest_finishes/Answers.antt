@@ -1,5 +1,5 @@
-use Rattle.session_meaning.proofs.IngestEnds.{finishes}
+use Rattle.session_meaning.proofs.IngestParts.{ingest_finishes}
 use Rattle.session_meaning.proofs.laws.an_ingest_finishes.Goals as goal
 
 pub returns : goal.returns
-returns c = finishes
+returns c = ingest_finishes

@@ -70,7 +70,7 @@ returns-in-Ok-clause-recovers g c = λ told sound.
           c.do_asked-ending.ensures.endings
           (cause_of c.do_asked-ending.result old new c.do_asked-ending.ensures.endings c.do_asked-ending.ensures.write_fault c.do_asked-ending.ensures.read_fault c.do_asked-ending.ensures.spent),
       subst (λ x. Recovers d disk x (in_a_store d moment core later begins.0 run.0 c.do_asked-ending.result came.0 came.1 came.2)) (sym c.close.ensures)
-          (opened_recovers d disk moment core later begins.0 run.0 c.do_asked-ending.result came.0 came.1 came.2 begins.1.over over told begins.1
+          (opened_recovers d disk moment core later begins.0 run.0 c.do_asked-ending.result came.0 came.1 came.2 begins.1.over over g.met.D.Device.counts_now g.met.D.Device.only_now told begins.1
           c.in-Ok.ensures.kept c.in-Ok.ensures.calls.telling run.1.0),
     )
 

@@ -1,7 +1,8 @@
 use Rattle.std.proofs.Common.{◌≡◌, ◌<◌, ◌-◌, ◌+◌, ◌∙◌, arith, ap, sym, subst}
 use Rattle.std.specs.Prelude.{IfOk}
 use Rattle.client_run.proofs.CallLemmas.{holds_kept}
-use Rattle.session_meaning.specs.Ingest.{is_joined, most_rounds}
+use Rattle.session_meaning.specs.Duties.{most_rounds}
+use Rattle.session_meaning.specs.Ingest.{is_joined}
 use Rattle.store_core.specs.Port.{port_of}
 use Rattle.trace_shell.specs.Ingesting.{stopped_in}
 use Rattle.trace_shell.proofs.IngestLemmas.{compacting_again, compacting_begins, compacting_done, compacting_over, compacting_stopped}

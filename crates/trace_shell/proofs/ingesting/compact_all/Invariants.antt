@@ -1,6 +1,6 @@
 -- So far each compaction joined blocks, and as many may be made yet as make up the bound with those.
 use Rattle.std.proofs.Common.{◌-◌, ◌≤◌, List}
-use Rattle.session_meaning.specs.Ingest.{most_rounds}
+use Rattle.session_meaning.specs.Duties.{most_rounds}
 use Rattle.store_core.specs.Port.{port_of}
 use Rattle.store_model.specs.Holds.{Hold}
 use Rattle.trace_shell.proofs.IngestLemmas.{Compacting}

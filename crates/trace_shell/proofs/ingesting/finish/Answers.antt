@@ -1,5 +1,5 @@
 use Rattle.std.proofs.Common.{[], None, Some, refl}
-use Rattle.session_meaning.specs.Ingest.{at_the_end}
+use Rattle.session_meaning.specs.Duties.{at_the_end}
 use Rattle.trace_shell.proofs.IngestLemmas.{asked_so, leaves_so}
 use Rattle.trace_shell.proofs.ingesting.finish.Goals as goal
 

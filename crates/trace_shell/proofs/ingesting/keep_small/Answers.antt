@@ -1,5 +1,6 @@
 use Rattle.std.proofs.Common.{[], ◌<◌, ◌≤◌, arith}
-use Rattle.session_meaning.specs.Ingest.{from_lines, many_rows}
+use Rattle.session_meaning.specs.Duties.{from_lines}
+use Rattle.session_meaning.specs.Ingest.{many_rows}
 use Rattle.store_core.specs.Cores.{held_in}
 use Rattle.trace_shell.proofs.IngestLemmas.{asked_none, leaves_few, leaves_many}
 use Rattle.trace_shell.proofs.ingesting.keep_small.Goals as goal

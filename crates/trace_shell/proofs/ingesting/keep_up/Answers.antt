@@ -1,6 +1,6 @@
 use Rattle.std.proofs.Common.{◌++◌, ◌∷◌, []}
 use Rattle.client_run.proofs.CallLemmas.{holds_kept}
-use Rattle.session_meaning.specs.Ingest.{ask as to_ask, at_the_end, compact_all as to_compact_all, most_rounds}
+use Rattle.session_meaning.specs.Duties.{ask as to_ask, at_the_end, compact_all as to_compact_all, most_rounds}
 use Rattle.session_text.specs.declared.request.Request.TheVariants.{Reclaim}
 use Rattle.store_core.specs.Port.{port_of}
 use Rattle.trace_shell.proofs.IngestLemmas.{asked_so, asked_then, leaves_stopped, leaves_then}
