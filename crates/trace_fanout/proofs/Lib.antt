@@ -1,0 +1,4 @@
+mod Chunks
+mod Each
+mod Firsts
+mod Uncut
