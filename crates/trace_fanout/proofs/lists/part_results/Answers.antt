@@ -8,6 +8,7 @@ use Rattle.spanset_eval.specs.declared.results.TraceResult.{TraceResult}
 use Rattle.traceql_syntax.specs.Trees.{query_tree}
 use Rattle.traceql_types.proofs.Crossing.{checked-sync}
 use Rattle.search_answer.specs.Parts.{Answers}
+use Rattle.trace_fanout.proofs.Crossing.{rows-sync}
 use Rattle.trace_fanout.proofs.Chunks.{collected, in_each_chunk, these_chunks}
 use Rattle.trace_fanout.proofs.lists.part_results.Goals as goal
 
@@ -26,7 +27,7 @@ pub map-requires-sync-F : goal.map-requires-sync-F
 map-requires-sync-F g c κs within = search (checked-sync, sendable, crosses) depth 80 fits 100000
 
 pub collect-requires-send-Self : goal.collect-requires-send-Self
-collect-requires-send-Self g c κs within = search (checked-sync, sendable, crosses) depth 80 fits 100000
+collect-requires-send-Self g c κs within = search (rows-sync, checked-sync, sendable, crosses) depth 80 fits 100000
 
 pub returns : goal.returns
 returns g c =

@@ -9,6 +9,7 @@ use Rattle.traceql_types.proofs.Crossing.{checked-sync}
 use Rattle.search_answer.specs.declared.traces.TraceInRange.{TraceInRange}
 use Rattle.search_answer.specs.InRange.{rows_of_each}
 use Rattle.search_answer.specs.Parts.{AreFirstAnswers}
+use Rattle.trace_fanout.proofs.Crossing.{row-sync}
 use Rattle.trace_fanout.proofs.Chunks.{collected, in_each_chunk, these_chunks}
 use Rattle.trace_fanout.proofs.windows.part_results.Goals as goal
 
@@ -27,7 +28,7 @@ pub map-requires-sync-F : goal.map-requires-sync-F
 map-requires-sync-F g c κs within = search (checked-sync, sendable, crosses) depth 80 fits 100000
 
 pub collect-requires-send-Self : goal.collect-requires-send-Self
-collect-requires-send-Self g c κs within = search (checked-sync, sendable, crosses) depth 80 fits 100000
+collect-requires-send-Self g c κs within = search (row-sync, checked-sync, sendable, crosses) depth 80 fits 100000
 
 pub returns : goal.returns
 returns g c =
