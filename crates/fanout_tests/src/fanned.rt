@@ -1,7 +1,7 @@
 //! Searches whose traces are evaluated in threads, worked out by hand.
 //!
-//! There are 400 traces, and the one with the greatest number starts last. So the traces from 400 down to 337 are in the first window, those
-//! down to 81 in the second, and the others in the third.
+//! There are 400 traces, and the one with the greatest number starts last. So the traces from 400 down to 337 are in
+//! the first window, those down to 81 in the second, and the others in the third.
 
 use crate::traces::{names_of, query_of, rows_of};
 use moment_range::Range;
@@ -27,9 +27,21 @@ static CASES: [Case; 9] = [
     ("{ name =~ \"3|40|290\" }", 1, "290 "),
     ("{ name =~ \"3|40|290\" }", 2, "290 40 "),
     ("{ name =~ \"3|40|290\" }", 20, "290 40 3 "),
-    ("{ name =~ \"400|337|336|81|80|1\" }", 20, "400 337 336 81 80 1 "),
-    ("{ name =~ \"400|337|336|81|80|1\" }", 5, "400 337 336 81 80 "),
-    ("{ name =~ \"20.\" }", 20, "209 208 207 206 205 204 203 202 201 200 "),
+    (
+        "{ name =~ \"400|337|336|81|80|1\" }",
+        20,
+        "400 337 336 81 80 1 ",
+    ),
+    (
+        "{ name =~ \"400|337|336|81|80|1\" }",
+        5,
+        "400 337 336 81 80 ",
+    ),
+    (
+        "{ name =~ \"20.\" }",
+        20,
+        "209 208 207 206 205 204 203 202 201 200 ",
+    ),
     ("{ name =~ \"20.\" }", 3, "209 208 207 "),
     ("{ name = \"x\" }", 20, ""),
 ];
@@ -58,7 +70,10 @@ fn shows<R: Threads + Sync>(rt: &R, alloc: Global, text: &str, limit: u32, names
 #[test]
 fn windows_show_the_first_results(rt: HostRuntime) {
     for (text, limit, names) in &CASES {
-        assert!(&rt; shows(&rt, rt.alloc(), text, *limit, names), "{text}, {limit}");
+        assert!(&rt;
+            shows(&rt, rt.alloc(), text, *limit, names),
+            "{text}, {limit}"
+        );
     }
 }
 
@@ -75,5 +90,8 @@ fn deep(alloc: Global, condition: &str) -> Result<String, AllocError> {
 #[test]
 fn threads_have_stack_for_a_deep_query(rt: HostRuntime) {
     let text = deep(rt.alloc(), "name=\"7\"").expect(&rt, "memory");
-    assert!(&rt; shows(&rt, rt.alloc(), text.as_str(), 20, "7 "), "a deep query");
+    assert!(&rt;
+        shows(&rt, rt.alloc(), text.as_str(), 20, "7 "),
+        "a deep query"
+    );
 }

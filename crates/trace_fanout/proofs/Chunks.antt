@@ -1,5 +1,5 @@
 -- A list in chunks: what holds of each of its items does in each chunk, and what was made of all chunks.
-use Rattle.std.proofs.Common.{◌≡◌, ℕ, ◌<◌, ◌++◌, List, [], ◌∷◌, All, arith, map, length, max, ap, ◌∙◌, sym, subst, Ok, Err, IfOk, MatchResult, Contains, Bor, Vec, Global}
+use Rattle.std.proofs.Common.{◌≡◌, ℕ, ◌<◌, List, [], ◌∷◌, All, arith, map, max, ap, ◌∙◌, sym, subst, Ok, Err, IfOk, MatchResult, Contains, Bor, Vec, Global}
 use Rattle.std.specs.List.{AllZip, AllByRecursion, flat_map}
 use Rattle.std.specs.declared.result.Result.{Result}
 use Rattle.std.proofs.lemmas.List.Elements.{All-from_recursion}

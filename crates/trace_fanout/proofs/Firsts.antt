@@ -3,10 +3,9 @@ use Rattle.std.proofs.Common.{◌≡◌, ℕ, zero, suc, ◌+◌, ◌-◌, ◌<�
 use Rattle.std.specs.List.{AllZip, flat_map}
 use Rattle.std.proofs.lemmas.Bool.{true≢false}
 use Rattle.std.proofs.lemmas.List.{length-map, length-take, map-append, take-append-drop, take-append-le, take-map, take-take, take_all}
-use Rattle.std.proofs.lemmas.List.Elements.{All-drop, All-map, recursion_from_All}
+use Rattle.std.proofs.lemmas.List.Elements.{All-map, recursion_from_All}
 use Rattle.rayon.proofs.ListFacts.{All-parts}
 use Rattle.span_tree.specs.Nodes.{IsOneTrace}
-use Rattle.span_types.specs.declared.spans.Row.{Row}
 use Rattle.spanset_eval.specs.declared.results.TraceResult.{TraceResult}
 use Rattle.spanset_eval.specs.Outcomes.{cut}
 use Rattle.traceql_syntax.specs.Trees.{QueryTree}

@@ -76,11 +76,7 @@ fn part_results<R: Threads + Sync>(
 }
 
 // What the query answers of each of these traces, evaluated in this thread.
-fn results_of(
-    alloc: Global,
-    checked: &Checked,
-    traces: &[Rows],
-) -> Result<Vec<TraceResult>, Memory>
+fn results_of(alloc: Global, checked: &Checked, traces: &[Rows]) -> Result<Vec<TraceResult>, Memory>
     requires { All IsOneTrace traces.now }
     ensures { IfOk result (λ found.
         Answers checked.now.patterns (query_tree checked.now.query) traces.now found.items) }

@@ -97,7 +97,14 @@ fn window_results<R: Threads + Sync>(
     ensures { IfOk result (λ found. AreFirstAnswers checked.now.patterns
         (query_tree checked.now.query) bounds (rows_of_each traces.now) found.items) }
 {
-    let parts = part_results(rt, alloc, checked, bounds, part_len(rt, traces.len()), traces)?;
+    let parts = part_results(
+        rt,
+        alloc,
+        checked,
+        bounds,
+        part_len(rt, traces.len()),
+        traces,
+    )?;
     let mut found = joined(alloc, parts)?;
     found.truncate(bounds.limit as usize);
     Ok(found)

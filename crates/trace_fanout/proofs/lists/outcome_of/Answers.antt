@@ -12,6 +12,6 @@ returns c =
     let rows = c.args.trace.now in
     record {
       outcome = IfOk-then c.evaluate_rows.result.0 _ (IsOutcome ps rows q) c.evaluate_rows.ensures.outcome (λ o is.
-      uncut ps rows q o (subst (λ n. IsCutOutcome (Some n) ps rows q o) c.len.ensures (subst (λ l. IsCutOutcome (Some c.len.result) ps l q o) c.as_slice.ensures is)));
+          uncut ps rows q o (subst (λ n. IsCutOutcome (Some n) ps rows q o) c.len.ensures (subst (λ l. IsCutOutcome (Some c.len.result) ps l q o) c.as_slice.ensures is)));
       matchers = c.evaluate_rows.ensures.matchers;
     }

@@ -1,4 +1,4 @@
-use Rattle.std.proofs.Common.{List, Vec, Global, ◌∙◌, ap, subst, sym, take}
+use Rattle.std.proofs.Common.{Vec, Global, ◌∙◌, ap, subst, sym, take}
 use Rattle.std.specs.List.{flat_map}
 use Rattle.rayon.specs.Lists.{chunks_of}
 use Rattle.rayon.proofs.ToStd.{chunks_of-concat}
