@@ -1,5 +1,5 @@
 -- First results of traces that are gone over a few at a time, and of parts that are evaluated side by side.
-use Rattle.std.proofs.Common.{◌≡◌, ℕ, zero, suc, ◌+◌, ◌-◌, ◌<◌, ◌≤◌, List, [], ◌∷◌, ◌++◌, true, false, ◌==◌, eqb-true, Some, All, refl, sym, ◌∙◌, ap, subst, arith, length, map, take, drop, append-nil, append_assoc, Vec, Global}
+use Rattle.std.proofs.Common.{◌≡◌, ℕ, zero, suc, ◌-◌, ◌<◌, ◌≤◌, List, [], ◌∷◌, ◌++◌, true, false, ◌==◌, eqb-true, Some, All, refl, sym, ◌∙◌, ap, subst, arith, length, map, take, drop, append-nil, append_assoc, Vec, Global}
 use Rattle.std.specs.List.{AllZip, flat_map}
 use Rattle.std.proofs.lemmas.Bool.{true≢false}
 use Rattle.std.proofs.lemmas.List.{length-map, length-take, map-append, take-append-drop, take-append-le, take-map, take-take, take_all}
