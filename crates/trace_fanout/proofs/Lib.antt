@@ -1,0 +1,5 @@
+mod Chunks
+mod Crossing
+mod Each
+mod Firsts
+mod Uncut
