@@ -1,0 +1,4 @@
+pub mod Scripts
+pub mod Told
+pub mod Served
+pub mod Stages
