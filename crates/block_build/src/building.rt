@@ -94,7 +94,9 @@ fn header_of(form: u8, stripes: Vec<StripeInfo>, tail: &Tail) -> Header
 /// The bytes with a header over their first ones, and index and Bloom filters after them.
 fn joined(mut bytes: Vec<u8>, front: &[u8], tail: &Tail) -> Result<Bytes, Memory>
     requires { length front.now ≤ length bytes.items }
-    ensures { IfOk result (λ whole. whole ≡ front.now ++ (drop (length front.now) bytes.items ++ (tail.now.index ++ tail.now.bloom))) }
+    ensures { IfOk result
+        (λ whole. whole ≡ front.now
+        ++ (drop (length front.now) bytes.items ++ (tail.now.index ++ tail.now.bloom))) }
 {
     with_front(&mut bytes, front);
     bytes.extend_from_slice(tail.index.as_slice())?;

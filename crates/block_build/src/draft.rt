@@ -76,7 +76,8 @@ fn put_stripe(
 ) -> Result<StripeInfo, Memory>
     requires can { can_be_stripe (is_extended form) rows.now ≡ true }
     requires whole { length bytes.old.items % 4096 ≡ 0 }
-    ensures { IfOk result (λ entry. AddsStripe form rows.now bytes.old.items bytes.new.items entry) }
+    ensures { IfOk result
+        (λ entry. AddsStripe form rows.now bytes.old.items bytes.new.items entry) }
 {
     let stripe = write_refs(alloc, rows, form)?;
     let page = bytes.len() / PAGE_BYTES;

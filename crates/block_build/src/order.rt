@@ -28,7 +28,8 @@ pub fn firsts_of<'r>(alloc: Global, rows: &[RowRef<'r>]) -> Result<Vec<RowRef<'r
 /// The rows in order of trace, those of each trace in their order.
 fn by_trace<'a, 'r>(alloc: Global, rows: &'a [RowRef<'r>]) -> Result<Vec<Ticket<'a, 'r>>, Memory>
     ensures sorted { IfOk result (λ sorted. AreByTrace sorted.items) }
-    ensures same { IfOk result (λ sorted. (k : Key) → first_at k sorted.items ≡ first_at k rows.now) }
+    ensures same { IfOk result (λ sorted. (k : Key)
+        → first_at k sorted.items ≡ first_at k rows.now) }
 {
     let mut tickets = tickets_of(alloc, rows)?;
     tickets.sort_by(in_trace_order)?;
@@ -63,7 +64,8 @@ fn take_row<'a, 'r>(
     group: &mut Vec<Ticket<'a, 'r>>,
     firsts: &mut Vec<RowRef<'r>>,
 ) -> Result<(), Memory>
-    ensures { OnOk result ((rows rest : List Row) → GoneOver rows group.old.items (row.now ∷ rest) firsts.old.items
+    ensures { OnOk result ((rows rest : List Row)
+        → GoneOver rows group.old.items (row.now ∷ rest) firsts.old.items
         → GoneOver rows group.new.items rest firsts.new.items) }
 {
     if !begins_other(group.as_slice(), row) {

@@ -42,7 +42,8 @@ pub fn run_scripts<R: Threads + Wait + Sync, D: Device + Drop + Send, G: Gate>(
 ) -> (Core<D>, Result<Vec<Answered>, Memory>)
     requires holds { (port_of D.Device.own).holds core [] }
     requires few { vec_len scripts ≤ 2 ^ 31 }
-    ensures served { IfOk result.1 (λ answers. (entries : List Entry) × AreCallsOf D.Device.own core entries result.0
+    ensures served { IfOk result.1
+        (λ answers. (entries : List Entry) × AreCallsOf D.Device.own core entries result.0
         × HasServed (port_of D.Device.own) core entries scripts.items answers.items result.0) }
     ensures refused { OnErr result.1 (result.0 ≡ core) }
 {
@@ -158,12 +159,15 @@ fn run_all<R: Threads + Wait + Sync, Q: Port + Send, G: Gate>(
     let ((mine, answered), (ticket, answers)) = thread::join(
         rt,
         move || -> (PortTicket<Q>, Answered)
-            requires { IsSync R.row × IsSend Q.row × IsSync G.row × IsOf store.now mine × (client < 2 ^ 31) }
+            requires { IsSync R.row × IsSend Q.row × IsSync G.row × IsOf store.now mine
+                × (client < 2 ^ 31) }
             ensures { HasAnswered (seat_meaning Q.meaning) mine last result.1 result.0 }
         { run_one(rt, alloc, store, mine, last, client, gate) },
         move || -> (PortTicket<Q>, Vec<Answered>)
-            requires { IsSync R.row × IsSend Q.row × IsSync G.row × MayRun store.now ticket scripts answers }
-            ensures { HaveRun Q.meaning ticket scripts.items result.1.items result.0 × (vec_capacity answers ≤ vec_capacity result.1) }
+            requires { IsSync R.row × IsSend Q.row × IsSync G.row
+                × MayRun store.now ticket scripts answers }
+            ensures { HaveRun Q.meaning ticket scripts.items result.1.items result.0
+                × (vec_capacity answers ≤ vec_capacity result.1) }
         { run_all(rt, alloc, store, ticket, scripts, answers, gate) },
     );
     let mut answers = answers;

@@ -81,7 +81,8 @@ fn take_row(
     group: &mut Vec<Row>,
     firsts: &mut Vec<Row>,
 ) -> Result<(), Memory>
-    ensures { OnOk result ((rows rest : List Row) → GoneOver rows group.old.items (row ∷ rest) firsts.old.items
+    ensures { OnOk result ((rows rest : List Row)
+        → GoneOver rows group.old.items (row ∷ rest) firsts.old.items
         → GoneOver rows group.new.items rest firsts.new.items) }
 {
     if !begins_other(group.as_slice(), &row) {

@@ -40,8 +40,10 @@ pub(crate) fn current(reading: &Progress) -> &BlockInfo
 // How many pages are read of the block of which pages are to be read.
 fn wanted_pages(reading: &Progress) -> u64
     requires more { length reading.now.parts.items < length reading.now.job.pin.blocks }
-    requires page { HasPage (blocks_left reading.now.job reading.now.parts.items) reading.now.pages }
-    ensures wanted { OfFirst (blocks_left reading.now.job reading.now.parts.items) (λ info. pages_of info ≡ result) }
+    requires page { HasPage
+        (blocks_left reading.now.job reading.now.parts.items) reading.now.pages }
+    ensures wanted { OfFirst (blocks_left reading.now.job reading.now.parts.items)
+        (λ info. pages_of info ≡ result) }
     ensures more { reading.now.pages < result }
 {
     let block = current(reading);
@@ -66,7 +68,8 @@ pub(crate) fn file_of(info: &BlockInfo) -> u32
 pub(crate) fn turn(alloc: Global, reading: Progress, page: &[u8; 4096]) -> Phase
     requires more { length reading.parts.items < length reading.job.pin.blocks }
     requires page { HasPage (blocks_left reading.job reading.parts.items) reading.pages }
-    ensures turned { Turned reading.job reading.parts.items (reading.pages + 1) (reading.bytes.items ++ page.now)
+    ensures turned { Turned reading.job reading.parts.items (reading.pages + 1)
+        (reading.bytes.items ++ page.now)
         (task_of result) }
     ensures near { reading.pages < 2 ^ 64 }
 {
@@ -82,8 +85,10 @@ pub(crate) fn turn(alloc: Global, reading: Progress, page: &[u8; 4096]) -> Phase
 // Goes on to the next page of a block that has so many, or to its rows.
 fn settle(alloc: Global, reading: Progress, wanted: u64) -> Phase
     requires more { length reading.parts.items < length reading.job.pin.blocks }
-    requires wanted { OfFirst (blocks_left reading.job reading.parts.items) (λ info. pages_of info ≡ wanted) }
-    ensures { Turned reading.job reading.parts.items reading.pages reading.bytes.items (task_of result) }
+    requires wanted { OfFirst (blocks_left reading.job reading.parts.items)
+        (λ info. pages_of info ≡ wanted) }
+    ensures { Turned reading.job reading.parts.items reading.pages reading.bytes.items
+        (task_of result) }
 {
     if reading.pages < wanted {
         Phase::Reading(reading)
@@ -95,8 +100,10 @@ fn settle(alloc: Global, reading: Progress, wanted: u64) -> Phase
 // Reads the rows of a block of which all pages are read.
 fn close(alloc: Global, reading: Progress) -> Phase
     requires more { length reading.parts.items < length reading.job.pin.blocks }
-    requires whole { OfFirst (blocks_left reading.job reading.parts.items) (λ info. pages_of info ≤ reading.pages) }
-    ensures { Turned reading.job reading.parts.items reading.pages reading.bytes.items (task_of result) }
+    requires whole { OfFirst (blocks_left reading.job reading.parts.items)
+        (λ info. pages_of info ≤ reading.pages) }
+    ensures { Turned reading.job reading.parts.items reading.pages reading.bytes.items
+        (task_of result) }
 {
     let block = current(&reading);
     let file = file_of(block);

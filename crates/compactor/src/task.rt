@@ -68,7 +68,8 @@ impl CompactTask {
         requires { Fits P.meaning self.old port.old }
         ensures steps { Steps P.meaning self.old port.old self.new port.new }
         ensures fits { Fits P.meaning self.new port.new }
-        ensures found { FindsBlocks P.meaning self.old port.old → FindsBlocks P.meaning self.new port.new }
+        ensures found { FindsBlocks P.meaning self.old port.old
+            → FindsBlocks P.meaning self.new port.new }
         ensures left { steps_left self.new ≤ steps_left self.old - 1 }
         ensures answers { Answers result self.new }
     {
@@ -85,7 +86,8 @@ fn advance<P: Port>(alloc: Global, phase: Phase, port: &mut P) -> Phase
     requires { Fits P.meaning (task_of phase) port.old }
     ensures steps { Steps P.meaning (task_of phase) port.old (task_of result) port.new }
     ensures fits { Fits P.meaning (task_of result) port.new }
-    ensures found { FindsBlocks P.meaning (task_of phase) port.old → FindsBlocks P.meaning (task_of result) port.new }
+    ensures found { FindsBlocks P.meaning (task_of phase) port.old
+        → FindsBlocks P.meaning (task_of result) port.new }
     ensures left { steps_left (task_of result) ≤ steps_left (task_of phase) - 1 }
 {
     match phase {
@@ -129,13 +131,16 @@ fn unread(alloc: Global, job: CompactJob) -> Phase
 fn read_or_join<P: Port>(alloc: Global, reading: Progress, port: &mut P) -> Phase
     requires { IsReading P.meaning reading.job reading.parts.items reading.pages reading.bytes.items
         port.old }
-    ensures steps { OneEvent P.meaning (Reading reading.job reading.parts.items reading.pages reading.bytes.items)
+    ensures steps { OneEvent P.meaning
+        (Reading reading.job reading.parts.items reading.pages reading.bytes.items)
         port.old (task_of result) port.new }
     ensures fits { Fits P.meaning (task_of result) port.new }
-    ensures found { FindsBlocks P.meaning (Reading reading.job reading.parts.items reading.pages reading.bytes.items)
+    ensures found { FindsBlocks P.meaning
+        (Reading reading.job reading.parts.items reading.pages reading.bytes.items)
         port.old → FindsBlocks P.meaning (task_of result) port.new }
     ensures left { steps_left (task_of result)
-        ≤ (length reading.job.pin.blocks - length reading.parts.items) * 2 ^ 64 + (2 ^ 64 - reading.pages)
+        ≤ (length reading.job.pin.blocks - length reading.parts.items) * 2 ^ 64
+        + (2 ^ 64 - reading.pages)
         + 2 ^ 64 + 3 }
 {
     if reading.parts.len() < reading.job.pin.blocks.len() {
@@ -150,13 +155,16 @@ fn read<P: Port>(alloc: Global, reading: Progress, port: &mut P) -> Phase
     requires is_reading { IsReading P.meaning reading.job reading.parts.items reading.pages reading.bytes.items
         port.old }
     requires more { length reading.parts.items < length reading.job.pin.blocks }
-    ensures steps { OneEvent P.meaning (Reading reading.job reading.parts.items reading.pages reading.bytes.items)
+    ensures steps { OneEvent P.meaning
+        (Reading reading.job reading.parts.items reading.pages reading.bytes.items)
         port.old (task_of result) port.new }
     ensures fits { Fits P.meaning (task_of result) port.new }
-    ensures found { FindsBlocks P.meaning (Reading reading.job reading.parts.items reading.pages reading.bytes.items)
+    ensures found { FindsBlocks P.meaning
+        (Reading reading.job reading.parts.items reading.pages reading.bytes.items)
         port.old → FindsBlocks P.meaning (task_of result) port.new }
     ensures left { steps_left (task_of result)
-        ≤ (length reading.job.pin.blocks - length reading.parts.items) * 2 ^ 64 + (2 ^ 64 - reading.pages)
+        ≤ (length reading.job.pin.blocks - length reading.parts.items) * 2 ^ 64
+        + (2 ^ 64 - reading.pages)
         + 2 ^ 64 + 3 }
 {
     described_block_is_read();
@@ -174,7 +182,8 @@ fn join<P: Port>(alloc: Global, reading: Progress, port: &mut P) -> Phase
     requires is_reading { IsReading P.meaning reading.job reading.parts.items reading.pages reading.bytes.items
         port.old }
     requires whole { length reading.job.pin.blocks ≤ length reading.parts.items }
-    ensures steps { OneEvent P.meaning (Reading reading.job reading.parts.items reading.pages reading.bytes.items)
+    ensures steps { OneEvent P.meaning
+        (Reading reading.job reading.parts.items reading.pages reading.bytes.items)
         port.old (task_of result) port.new }
     ensures fits { Fits P.meaning (task_of result) port.new }
     ensures found { FindsBlocks P.meaning (task_of result) port.new }
@@ -190,7 +199,8 @@ fn join<P: Port>(alloc: Global, reading: Progress, port: &mut P) -> Phase
 // Writes the next piece, or lists the block that is written.
 fn go_on<P: Port>(job: CompactJob, block: Block, port: &mut P) -> Phase
     requires { IsWriting P.meaning job block.bytes block.info port.old }
-    ensures steps { OneEvent P.meaning (Writing job block.bytes block.info) port.old (task_of result) port.new }
+    ensures steps { OneEvent P.meaning (Writing job block.bytes block.info) port.old
+        (task_of result) port.new }
     ensures fits { Fits P.meaning (task_of result) port.new }
     ensures found { FindsBlocks P.meaning (task_of result) port.new }
     ensures left { steps_left (task_of result) ≤ length block.bytes - job.out.written + 1 }
@@ -207,7 +217,8 @@ fn go_on<P: Port>(job: CompactJob, block: Block, port: &mut P) -> Phase
 fn write<P: Port>(job: CompactJob, block: Block, port: &mut P) -> Phase
     requires is_writing { IsWriting P.meaning job block.bytes block.info port.old }
     requires more { job.out.written < length block.bytes }
-    ensures steps { OneEvent P.meaning (Writing job block.bytes block.info) port.old (task_of result) port.new }
+    ensures steps { OneEvent P.meaning (Writing job block.bytes block.info) port.old
+        (task_of result) port.new }
     ensures fits { Fits P.meaning (task_of result) port.new }
     ensures found { FindsBlocks P.meaning (task_of result) port.new }
     ensures left { steps_left (task_of result) ≤ length block.bytes - job.out.written + 1 }
@@ -224,7 +235,8 @@ fn write<P: Port>(job: CompactJob, block: Block, port: &mut P) -> Phase
 fn commit<P: Port>(job: CompactJob, block: Block, port: &mut P) -> Phase
     requires is_writing { IsWriting P.meaning job block.bytes block.info port.old }
     requires whole { job.out.written ≡ length block.bytes }
-    ensures steps { OneEvent P.meaning (Writing job block.bytes block.info) port.old (task_of result) port.new }
+    ensures steps { OneEvent P.meaning (Writing job block.bytes block.info) port.old
+        (task_of result) port.new }
     ensures fits { Fits P.meaning (task_of result) port.new }
     ensures found { FindsBlocks P.meaning (task_of result) port.new }
     ensures left { steps_left (task_of result) ≡ 0 }
@@ -266,8 +278,10 @@ fn give_up<P: Port>(job: CompactJob, why: Refusal, port: &mut P) -> Phase
 /// block is found to be malformed.
 pub fn compact_round<P: Port>(alloc: Global, port: &mut P) -> Round
     requires { (held : List Hold) × P.meaning.holds port.old held }
-    ensures made { (calls : List Call) × AreMade P.meaning port.old calls port.new × IsCompactRound calls result }
-    ensures told { IsTrue (P.meaning.tells port.old) → Known P.meaning port.old → FoundBlocks result }
+    ensures made { (calls : List Call) × AreMade P.meaning port.old calls port.new
+        × IsCompactRound calls result }
+    ensures told { IsTrue (P.meaning.tells port.old) → Known P.meaning port.old
+        → FoundBlocks result }
 {
     let mut task = CompactTask::new(alloc);
     loop {

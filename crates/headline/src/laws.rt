@@ -40,10 +40,12 @@ use store_core::Core;
 /// afterwards stands for that history to its end. `trace_shell::run` ensures the premises; `true` says that the disk
 /// shows its bytes.
 pub fn the_headline<D: Device>(disk: &D, later: &D)
-    ensures answers { (words : List (List ℕ)) (o : Outcome) (old new : Edges) → IsRunOf true words o old new
+    ensures answers { (words : List (List ℕ)) (o : Outcome) (old new : Edges)
+        → IsRunOf true words o old new
         → TellTheHistory (history_of o.first) o.items o.replies (history_of o.last) }
     // And the disk keeps the history that they tell, from one on for which its bytes stood.
-    ensures stored { (words : List (List ℕ)) (o : Outcome) (old new : Edges) → IsRunOf true words o old new
+    ensures stored { (words : List (List ℕ)) (o : Outcome) (old new : Edges)
+        → IsRunOf true words o old new
         → Recovers D.Device.own disk.now later.now o → IsTrue o.opened
         → (first last : History) × ImageStandsFor (D.held disk.now) first
         × KeepsTheHistory D.Device.own disk.now later.now o.items o.replies first last }
@@ -74,7 +76,8 @@ pub fn the_next_run_goes_on<D: Device>(begun: &D, left: &D, disk: &D, later: &D)
         → (words : List (List ℕ)) (o : Outcome) (old new : Edges) → IsRunOf true words o old new
         → Recovers D.Device.own disk.now later.now o → IsTrue o.opened
         → D.may_leave left.now (D.held disk.now)
-        → (start : History) × ((start ≡ last) ⊎ (start ≡ with_entry (unsure_entry items replies) last))
+        → (start : History) ×
+        ((start ≡ last) ⊎ (start ≡ with_entry (unsure_entry items replies) last))
         × KeepsTheHistory D.Device.own disk.now later.now o.items o.replies
         start (grown start (accepted_entries o.items o.replies)) }
     // After a crash at any moment of it: with a front of that history which has all that was stored before it. It is
@@ -93,7 +96,8 @@ pub fn the_next_run_goes_on<D: Device>(begun: &D, left: &D, disk: &D, later: &D)
 
 /// What is written in a store that was opened is the text of these replies, or a first part of it.
 pub fn replies_are_written()
-    ensures { (told : Bool) (words : List (List ℕ)) (c : Command) (o : Outcome) (old new : Edges) → Spells words c
+    ensures { (told : Bool) (words : List (List ℕ)) (c : Command) (o : Outcome) (old new : Edges)
+        → Spells words c
         → IsRunOf told words o old new → TellsAll c old → IsTrue o.opened
         → AppendsPrefix old.taken new.taken (reply_texts o.replies) }
 {}
@@ -101,7 +105,8 @@ pub fn replies_are_written()
 /// Where replies tell a history, each tells one front of the last one: with each push that was accepted before, and no
 /// other.
 pub fn each_answer_is_of_a_front()
-    ensures { (first last : History) (before after : List Item) (item : Item) (earlier later : List Reply)
+    ensures { (first last : History) (before after : List Item) (item : Item)
+        (earlier later : List Reply)
         → (reply : Reply)
         → length before ≡ length earlier
         → TellTheHistory first (before ++ item ∷ after) (earlier ++ reply ∷ later) last
@@ -111,17 +116,20 @@ pub fn each_answer_is_of_a_front()
 /// The counts of pushes that a session tells never fall.
 pub fn counts_grow()
     // `as_of` never falls.
-    ensures as_of { (told : Bool) (items : List Item) (earlier later : List Reply) (one other : Reply)
+    ensures as_of { (told : Bool) (items : List Item) (earlier later : List Reply)
+        (one other : Reply)
         → (first last : At) (count further : ℕ)
         → Session told first items (earlier ++ one ∷ later) last → Contains later other
         → known_pushes one ≡ Some count → known_pushes other ≡ Some further → count ≤ further }
     // An acknowledged push is counted by each later answer.
-    ensures acknowledged { (told : Bool) (items : List Item) (earlier later : List Reply) (other : Reply)
+    ensures acknowledged { (told : Bool) (items : List Item) (earlier later : List Reply)
+        (other : Reply)
         → (first last : At) (number accepted rejected skipped further : ℕ)
         → Session told first items (earlier ++ Pushed number accepted rejected skipped ∷ later) last
         → Contains later other → known_pushes other ≡ Some further → number < further }
     // Accepted pushes are numbered one after another.
-    ensures numbered { (told : Bool) (items : List Item) (earlier later : List Reply) (first last : At)
+    ensures numbered { (told : Bool) (items : List Item) (earlier later : List Reply)
+        (first last : At)
         → (number accepted rejected skipped : ℕ)
         → Session told first items (earlier ++ Pushed number accepted rejected skipped ∷ later) last
         → number ≡ count_of (history_of first) + length (accepted_entries items earlier) }
@@ -129,15 +137,19 @@ pub fn counts_grow()
 
 /// A store that writes no more stays so to the end of a session, and accepts no push.
 pub fn read_only_stays()
-    ensures stays { (told : Bool) (items : List Item) (replies : List Reply) (first last : At) (faults : ℕ)
+    ensures stays { (told : Bool) (items : List Item) (replies : List Reply) (first last : At)
+        (faults : ℕ)
         → Session told first items replies last → first.machine.read_only ≡ Some faults
         → (last.machine.read_only ≡ Some faults) × AreToldReadOnly faults items replies }
     // So it is after a push that is refused as `read-only` or `disk-fault`.
     ensures from_a_push { (told : Bool) (before after : List Item) (reading : Reading) (moment : ℕ)
-        → (earlier later : List Reply) (why : Refusal) (first last : At) → length before ≡ length earlier
-        → Session told first (before ++ Ok (Push reading moment) ∷ after) (earlier ++ Refused why ∷ later) last
+        → (earlier later : List Reply) (why : Refusal) (first last : At)
+        → length before ≡ length earlier
+        → Session told first (before ++ Ok (Push reading moment) ∷ after)
+        (earlier ++ Refused why ∷ later) last
         → StopsWriting why
-        → (faults : ℕ) × (last.machine.read_only ≡ Some faults) × AreToldReadOnly faults after later }
+        → (faults : ℕ) × (last.machine.read_only ≡ Some faults)
+        × AreToldReadOnly faults after later }
     // And where lines are told so no push is accepted.
     ensures accepts_none { (faults : ℕ) (items : List Item) (replies : List Reply)
         → AreToldReadOnly faults items replies → accepted_entries items replies ≡ [] }
@@ -147,12 +159,16 @@ pub fn read_only_stays()
 
 /// A core keeps what was stored before a request, at every moment of it, and what the request is told to be accepted.
 pub fn a_request_keeps_what_is_stored<D: Device>(old: &Core<D>, new: &Core<D>)
-    ensures of_a_request { (h : History) (asked : Request) (reply : Reply) → HasHistory D.Device.own old.now h
-        → IsTrue (D.tells old.now.disk) → HasReplied (port_of D.Device.own) old.now asked reply new.now
+    ensures of_a_request { (h : History) (asked : Request) (reply : Reply)
+        → HasHistory D.Device.own old.now h
+        → IsTrue (D.tells old.now.disk)
+        → HasReplied (port_of D.Device.own) old.now asked reply new.now
         → KeepsFrom D.Device.own old.now new.now h (grown h (accepted_entry (Ok asked) reply)) }
     // The same of lines, one after another. So whatever a crash left since some line was answered has all that was
     // accepted by then.
-    ensures of_lines { (h : History) (items : List Item) (replies : List Reply) → HasHistory D.Device.own old.now h
-        → IsTrue (D.tells old.now.disk) → AreAnsweredOver (port_of D.Device.own) old.now items replies new.now
+    ensures of_lines { (h : History) (items : List Item) (replies : List Reply)
+        → HasHistory D.Device.own old.now h
+        → IsTrue (D.tells old.now.disk)
+        → AreAnsweredOver (port_of D.Device.own) old.now items replies new.now
         → KeepsFrom D.Device.own old.now new.now h (grown h (accepted_entries items replies)) }
 {}

@@ -67,8 +67,10 @@ use store_core::Core;
 /// blocks nothing is said: the machine of the store, with its logs and pins, tells no more than the pushes do.
 pub fn calls_answer_as_the_history_says()
     ensures item { (item : Item) (before after : At) (reply : Reply) → Agrees before.machine
-        → IsAnsweredByCalls item before reply after → IsAnsweredOrRefused false item before reply after }
-    ensures session { (items : List Item) (replies : List Reply) (calls : List Call) (first last : At)
+        → IsAnsweredByCalls item before reply after
+        → IsAnsweredOrRefused false item before reply after }
+    ensures session { (items : List Item) (replies : List Reply) (calls : List Call)
+        (first last : At)
         → Agrees first.machine → AreItemsAnswered items replies calls → CallsLead first calls last
         → Session false first items replies last }
 {}
@@ -79,49 +81,65 @@ pub fn a_core_answers_as_the_history_says<D: Device>(old: &Core<D>, new: &Core<D
     // queries see in blocks nothing is said.
     ensures shown { (items : List Item) (replies : List Reply)
         → AreAnsweredOver (port_of D.Device.own) old.now items replies new.now → (m : Machine)
-        → CoreShows D.Device.own old.now m → (later : Machine) × CoreShows D.Device.own new.now later
-        × Session false (at_core D.Device.own old.now m) items replies (at_core D.Device.own new.now later) }
+        → CoreShows D.Device.own old.now m
+        → (later : Machine) × CoreShows D.Device.own new.now later
+        × Session false (at_core D.Device.own old.now m) items replies
+        (at_core D.Device.own new.now later) }
     // From a machine on for which it stands, where its disk shows its bytes: queries tell of all that was pushed,
     // wherever it lies. What was left since an earlier disk goes on standing for the history at some length.
     ensures since { (items : List Item) (replies : List Reply)
-        → AreAnsweredOver (port_of D.Device.own) old.now items replies new.now → (m : Machine) → (start : D) (least : ℕ)
+        → AreAnsweredOver (port_of D.Device.own) old.now items replies new.now → (m : Machine)
+        → (start : D) (least : ℕ)
         → StandsSince D.Device.own start least old.now m → IsTrue (D.tells old.now.disk)
         → (later : Machine) × StandsSince D.Device.own start least new.now later
-        × Session true (at_core D.Device.own old.now m) items replies (at_core D.Device.own new.now later) }
+        × Session true (at_core D.Device.own old.now m) items replies
+        (at_core D.Device.own new.now later) }
 {}
 
 /// What is asked of a core by the duties of an ingest follows them: from a machine on that its memory shows, or for
 /// which it stands, as of a session.
 pub fn a_core_ingests_as_the_history_says<D: Device>(old: &Core<D>, new: &Core<D>)
-    ensures shown { (todo left : List Duty) (told to_tell : Option (List ℕ)) (items : List Item) (replies : List Reply)
-        → FollowsOver D.Device.own todo told old.now items replies new.now left to_tell → (m : Machine)
-        → CoreShows D.Device.own old.now m → (later : Machine) × CoreShows D.Device.own new.now later
-        × Follows false todo told (at_core D.Device.own old.now m) items replies (at_core D.Device.own new.now later) left to_tell }
-    ensures since { (todo left : List Duty) (told to_tell : Option (List ℕ)) (items : List Item) (replies : List Reply)
-        → FollowsOver D.Device.own todo told old.now items replies new.now left to_tell → (m : Machine)
-        → (start : D) (least : ℕ) → StandsSince D.Device.own start least old.now m → IsTrue (D.tells old.now.disk)
+    ensures shown { (todo left : List Duty) (told to_tell : Option (List ℕ)) (items : List Item)
+        (replies : List Reply)
+        → FollowsOver D.Device.own todo told old.now items replies new.now left to_tell
+        → (m : Machine)
+        → CoreShows D.Device.own old.now m
+        → (later : Machine) × CoreShows D.Device.own new.now later
+        × Follows false todo told (at_core D.Device.own old.now m) items replies
+        (at_core D.Device.own new.now later) left to_tell }
+    ensures since { (todo left : List Duty) (told to_tell : Option (List ℕ)) (items : List Item)
+        (replies : List Reply)
+        → FollowsOver D.Device.own todo told old.now items replies new.now left to_tell
+        → (m : Machine)
+        → (start : D) (least : ℕ) → StandsSince D.Device.own start least old.now m
+        → IsTrue (D.tells old.now.disk)
         → (later : Machine) × StandsSince D.Device.own start least new.now later
-        × Follows true todo told (at_core D.Device.own old.now m) items replies (at_core D.Device.own new.now later) left to_tell }
+        × Follows true todo told (at_core D.Device.own old.now m) items replies
+        (at_core D.Device.own new.now later) left to_tell }
 {}
 
 /// Whoever follows the duties of an ingest asks what an ingest asks.
 pub fn duties_make_an_ingest()
     // As far as it came.
-    ensures stops { (sure : Bool) (source : List (List ℕ)) (told to_tell : Option (List ℕ)) (left : List Duty) (items : List Item)
+    ensures stops { (sure : Bool) (source : List (List ℕ)) (told to_tell : Option (List ℕ))
+        (left : List Duty) (items : List Item)
         → (replies : List Reply) (first last : At)
         → Follows sure (duties source) told first items replies last left to_tell
         → Ingests sure source (record { store = first; moments = told }) items replies
         (record { store = last; moments = to_tell }) stopped }
     // With nothing left, to its end.
-    ensures ends { (sure : Bool) (source : List (List ℕ)) (told to_tell : Option (List ℕ)) (items : List Item)
+    ensures ends { (sure : Bool) (source : List (List ℕ)) (told to_tell : Option (List ℕ))
+        (items : List Item)
         → (replies : List Reply) (first last : At)
         → Follows sure (duties source) told first items replies last [] to_tell
         → Ingests sure source (record { store = first; moments = told }) items replies
         (record { store = last; moments = to_tell }) whole }
     // With these lines left, and what is to do at the end, it pushed the lines before them.
-    ensures reads { (sure : Bool) (pushed later : List (List ℕ)) (told to_tell : Option (List ℕ)) (items : List Item)
+    ensures reads { (sure : Bool) (pushed later : List (List ℕ)) (told to_tell : Option (List ℕ))
+        (items : List Item)
         → (replies : List Reply) (first last : At)
-        → Follows sure (duties (pushed ++ later)) told first items replies last (from_lines later) to_tell
+        → Follows sure (duties (pushed ++ later)) told first items replies last
+        (from_lines later) to_tell
         → Pushes sure pushed (record { store = first; moments = told }) items replies
         (record { store = last; moments = to_tell }) }
 {}
@@ -135,7 +153,8 @@ pub fn sessions_keep_the_store()
     // A store that wrote at first writes no more only where a call failed since, and then it tells the disk's count
     // after that.
     ensures read_only { (told : Bool) (items : List Item) (replies : List Reply) (first last : At)
-        → Session told first items replies last → first.machine.read_only ≡ None → HasFailedSince first.faults last }
+        → Session told first items replies last → first.machine.read_only ≡ None
+        → HasFailedSince first.faults last }
 {}
 
 /// As many replies are `disk-fault` as calls of the disk failed.
@@ -148,7 +167,8 @@ pub fn each_disk_fault_is_counted()
     ensures of_lines { (moment : ℕ) (line : List ℕ) (refused : List (List ℕ)) (item : Item)
         → AsksAt moment line refused item → blames_disk item ≡ false }
     // Of a run that wasn't stopped by the first call that failed as it opened the store.
-    ensures of_runs { (told : Bool) (words : List (List ℕ)) (c : Command) (o : Outcome) (old new : Edges) → Spells words c
+    ensures of_runs { (told : Bool) (words : List (List ℕ)) (c : Command) (o : Outcome)
+        (old new : Edges) → Spells words c
         → IsRunOf told words o old new → TellsAll c old → o.ending ≢ NotOpened
         → RoseBy (disk_faults o.replies) old.disk_faults new.disk_faults }
 {}
@@ -160,10 +180,12 @@ pub fn replies_tell_the_history()
         → Session told first items replies last
         → history_of last ≡ grown (history_of first) (accepted_entries items replies) }
     // The number in an accepted push's reply is below the count of pushes that any later query knows of.
-    ensures known_later { (told : Bool) (items : List Item) (earlier later : List Reply) (first last : At)
+    ensures known_later { (told : Bool) (items : List Item) (earlier later : List Reply)
+        (first last : At)
         → (number kept rejected skipped : ℕ)
         → Session told first items (earlier ++ Pushed number kept rejected skipped ∷ later) last
-        → (reply : Reply) (known : ℕ) → Contains later reply → known_pushes reply ≡ Some known → number < known }
+        → (reply : Reply) (known : ℕ) → Contains later reply → known_pushes reply ≡ Some known
+        → number < known }
 {}
 
 /// What queries tell of what they see.
@@ -171,14 +193,17 @@ pub fn queries_tell_what_they_see()
     // Where it is sure what the blocks hold, a look-up is told what it finds at the history, and so is a search.
     ensures traces { (told : Bool) (id : TraceId) (at : At) (rows : List Row) → IsSure told at
         → IsTraceSeen told id at rows → IsTraceIn id (history_of at) rows }
-    ensures searches { (told : Bool) (asked : Asked) (at : At) (results : List TraceResult) → IsSure told at
+    ensures searches { (told : Bool) (asked : Asked) (at : At) (results : List TraceResult)
+        → IsSure told at
         → IsFoundSeen told asked at results → IsFound asked (history_of at) results }
     // Whatever the blocks hold, no span that waits outside of them is missing: a look-up of its trace is told a row
     // with its key, and a search is answered over one.
     ensures waiting { (told : Bool) (id : TraceId) (at : At) (rows : List Row) (row : Row)
-        → IsTraceSeen told id at rows → Contains (rows_outside at.machine.state) row → is_of_trace id row ≡ true
+        → IsTraceSeen told id at rows → Contains (rows_outside at.machine.state) row
+        → is_of_trace id row ≡ true
         → (x : Row) × Contains rows x × (row_key x ≡ row_key row) }
-    ensures searched { (told : Bool) (asked : Asked) (at : At) (results : List TraceResult) (row : Row)
+    ensures searched { (told : Bool) (asked : Asked) (at : At) (results : List TraceResult)
+        (row : Row)
         → (seen : IsFoundSeen told asked at results) → Contains (rows_outside at.machine.state) row
         → (x : Row) × Contains seen.rows x × (row_key x ≡ row_key row) }
 {}
@@ -186,14 +211,18 @@ pub fn queries_tell_what_they_see()
 /// Which pushes are refused, and which are accepted.
 pub fn pushes_have_their_causes()
     // Refused, it has the cause that its reply names, and the history stays.
-    ensures refused { (told : Bool) (reading : Reading) (moment : ℕ) (before after : At) (why : Refusal)
+    ensures refused { (told : Bool) (reading : Reading) (moment : ℕ) (before after : At)
+        (why : Refusal)
         → IsAnswered told (Ok (Push reading moment)) before (Refused why) after
         → HasPushCause why (length reading.batch.spans) before after
         × (history_of after ≡ history_of before) }
     // Accepted, it had room in a store that writes, and the reply says how many came before it.
-    ensures accepted { (told : Bool) (reading : Reading) (moment : ℕ) (before after : At) (number kept rejected skipped : ℕ)
-        → IsAnswered told (Ok (Push reading moment)) before (Pushed number kept rejected skipped) after
-        → HasRoomForPush (length reading.batch.spans) before.machine × (number ≡ count_of (history_of before)) }
+    ensures accepted { (told : Bool) (reading : Reading) (moment : ℕ) (before after : At)
+        (number kept rejected skipped : ℕ)
+        → IsAnswered told (Ok (Push reading moment)) before
+        (Pushed number kept rejected skipped) after
+        → HasRoomForPush (length reading.batch.spans) before.machine
+        × (number ≡ count_of (history_of before)) }
 {}
 
 /// What is stored, by the entries that were accepted. A run that is stopped is one over a disk of which from some call
@@ -203,18 +232,22 @@ pub fn accepted_pushes_are_stored()
     ensures returned { (told : Bool) (o : Outcome) (image : Image)
         → Session told o.first o.items o.replies o.last
         → StandsForLast o image
-        → MayStandFor (grown (history_of o.first) (accepted_entries o.items o.replies)) (unsure_of_run o) image }
+        → MayStandFor (grown (history_of o.first) (accepted_entries o.items o.replies))
+        (unsure_of_run o) image }
     // One since the store was opened: the same with the first few of these entries.
     ensures at_any_moment { (told : Bool) (o : Outcome) (image : Image)
         → Session told o.first o.items o.replies o.last
         → StandsWithin o image
-        → ((n : ℕ) × ImageStandsFor image (grown (history_of o.first) (take n (accepted_entries o.items o.replies))))
-        ⊎ MayStandFor (grown (history_of o.first) (accepted_entries o.items o.replies)) (unsure_of_run o) image }
+        → ((n : ℕ) × ImageStandsFor image
+        (grown (history_of o.first) (take n (accepted_entries o.items o.replies))))
+        ⊎ MayStandFor (grown (history_of o.first) (accepted_entries o.items o.replies))
+        (unsure_of_run o) image }
 {}
 
 /// Of the histories that an image stands for one is a base alone, in which each span stands once.
 pub fn what_is_stored_is_a_base()
-    ensures { (image : Image) (h : History) → ImageStandsFor image h → (base : List Row) × IsFirstOf base base
+    ensures { (image : Image) (h : History) → ImageStandsFor image h
+        → (base : List Row) × IsFirstOf base base
         × ImageStandsFor image (record { base = base; start = count_of h; entries = [] }) }
 {}
 
@@ -222,11 +255,13 @@ pub fn what_is_stored_is_a_base()
 /// end.
 pub fn comes_to_an_end()
     // It answers all that it was asked.
-    ensures ends { (told : Bool) (words : List (List ℕ)) (c : Command) (o : Outcome) (old new : Edges) → Spells words c
+    ensures ends { (told : Bool) (words : List (List ℕ)) (c : Command) (o : Outcome)
+        (old new : Edges) → Spells words c
         → IsRunOf told words o old new → GoesWell c old new → ComesToItsEnd o.ending }
     // And where nothing was refused in reading, the store had room, and what its blocks hold is told, nothing is
     // refused but for memory.
-    ensures well { (words : List (List ℕ)) (c : Command) (o : Outcome) (old new : Edges) → Spells words c
+    ensures well { (words : List (List ℕ)) (c : Command) (o : Outcome) (old new : Edges)
+        → Spells words c
         → IsRunOf true words o old new → GoesWell c old new
         → (before : List ℕ) → old.taken ≡ Some before → list_any is_refused o.items ≡ false
         → HasRoomFor o.items o.first.machine → (o.ending ≡ Answered) ⊎ (o.ending ≡ Starved) }
@@ -234,59 +269,73 @@ pub fn comes_to_an_end()
 
 /// What an ingest asks is asked and answered as in a session, so all that is said of sessions is said of it.
 pub fn an_ingest_is_a_session()
-    ensures as_far { (sure : Bool) (source : List (List ℕ)) (before after : Stand) (items : List Item) (replies : List Reply)
-        → (far : Far) → Ingests sure source before items replies after far → Session sure before.store items replies after.store }
-    ensures lines { (sure : Bool) (source : List (List ℕ)) (before after : Stand) (items : List Item) (replies : List Reply)
-        → Pushes sure source before items replies after → Session sure before.store items replies after.store }
-    ensures duties { (sure : Bool) (todo left : List Duty) (told to_tell : Option (List ℕ)) (items : List Item)
+    ensures as_far { (sure : Bool) (source : List (List ℕ)) (before after : Stand)
+        (items : List Item) (replies : List Reply)
+        → (far : Far) → Ingests sure source before items replies after far
+        → Session sure before.store items replies after.store }
+    ensures lines { (sure : Bool) (source : List (List ℕ)) (before after : Stand)
+        (items : List Item) (replies : List Reply)
+        → Pushes sure source before items replies after
+        → Session sure before.store items replies after.store }
+    ensures duties { (sure : Bool) (todo left : List Duty) (told to_tell : Option (List ℕ))
+        (items : List Item)
         → (replies : List Reply) (first last : At)
-        → Follows sure todo told first items replies last left to_tell → Session sure first items replies last }
+        → Follows sure todo told first items replies last left to_tell
+        → Session sure first items replies last }
 {}
 
 /// An ingest that came to its end has cut and flushed there, has compacted until a compaction joined no blocks, and then
 /// emptied loose files.
 pub fn an_ingest_finishes()
-    ensures { (sure : Bool) (source : List (List ℕ)) (before after : Stand) (items : List Item) (replies : List Reply)
+    ensures { (sure : Bool) (source : List (List ℕ)) (before after : Stand) (items : List Item)
+        (replies : List Reply)
         → Ingests sure source before items replies after whole → HasFinished items replies }
 {}
 
 /// What a flush makes of the store.
 pub fn flushes_have_their_causes()
     // The calls of a round make of the store what a flush does.
-    ensures by_calls { (calls : List Call) (round : Round) (before after : At) → IsFlushRound calls round
+    ensures by_calls { (calls : List Call) (round : Round) (before after : At)
+        → IsFlushRound calls round
         → CallsLead before calls after → IsFlushed before round after }
     // Refused, it has the cause that its reply names.
     ensures refused { (before after : At) (why : Cause) → IsClosed before.machine
         → IsFlushed before (IsRefused why) after → HasFlushCause why before after }
     // A flush of an empty head, in a store that writes, is answered just that.
-    ensures empty { (before after : At) (round : Round) → before.machine.read_only ≡ None → IsClosed before.machine
+    ensures empty { (before after : At) (round : Round) → before.machine.read_only ≡ None
+        → IsClosed before.machine
         → length before.machine.state.head ≡ 0 → IsFlushed before round after → round ≡ Nothing }
     // And where that is the answer, the head was empty, and the store is as it was.
     ensures nothing { (before after : At) → IsFlushed before Nothing after
         → (length before.machine.state.head ≡ 0) × IsStill before after }
     // A block that is listed holds the first occurrences of the rows that waited first, and the reply says how many
     // these are.
-    ensures listed { (before after : At) (blocks rows : ℕ) → IsFlushed before (Did blocks rows) after
+    ensures listed { (before after : At) (blocks rows : ℕ)
+        → IsFlushed before (Did blocks rows) after
         → HasListed before.machine blocks rows after.machine }
     // Without faults, in a store that writes and has file numbers left, it is done or memory ran out.
     ensures well { (before after : At) (round : Round) → (Rose before.faults after.faults → ⊥)
-        → before.machine.read_only ≡ None → IsClosed before.machine → before.machine.state.next_file < 4294967294
+        → before.machine.read_only ≡ None → IsClosed before.machine
+        → before.machine.state.next_file < 4294967294
         → IsFlushed before round after → IsDoneOrStarved round }
     // It leaves no job open in a store that writes, and the history as it was.
-    ensures kept { (before after : At) (round : Round) → IsClosed before.machine → IsFlushed before round after
+    ensures kept { (before after : At) (round : Round) → IsClosed before.machine
+        → IsFlushed before round after
         → IsClosed after.machine × (history_of after ≡ history_of before) }
 {}
 
 /// What a compaction makes of the store.
 pub fn compactions_have_their_causes()
     // The calls of a round make of the store what a compaction does.
-    ensures by_calls { (calls : List Call) (round : Round) (before after : At) → IsCompactRound calls round
+    ensures by_calls { (calls : List Call) (round : Round) (before after : At)
+        → IsCompactRound calls round
         → CallsLead before calls after → IsRound BeginCompact before round after }
     // Refused, it has the cause that its reply names.
     ensures refused { (told : Bool) (before after : At) (why : Cause) → IsClosed before.machine
         → IsCompacted told before (IsRefused why) after → HasCompactCause told why before after }
     // Where no two blocks of one level below 63 fit together, in a store that writes, that is just the answer.
-    ensures none_fit { (told : Bool) (before after : At) (round : Round) → before.machine.read_only ≡ None
+    ensures none_fit { (told : Bool) (before after : At) (round : Round)
+        → before.machine.read_only ≡ None
         → IsClosed before.machine → length (choice before.machine.state.blocks) ≡ 0
         → IsCompacted told before round after → round ≡ Nothing }
     // And where that is the answer, no two fitted, and the store is as it was.
@@ -295,24 +344,29 @@ pub fn compactions_have_their_causes()
     // It joins the blocks that the store chooses, and the reply says how many these are. The new block stands in their
     // place, and where what the blocks hold is known the reply says how many first occurrences their rows have.
     ensures joined { (told : Bool) (before after : At) (blocks rows : ℕ)
-        → IsCompacted told before (Did blocks rows) after → HasJoined told before.machine blocks rows after.machine }
+        → IsCompacted told before (Did blocks rows) after
+        → HasJoined told before.machine blocks rows after.machine }
     // Without faults, in a store that writes, has file numbers left and tells what its blocks hold, it is done or
     // memory was wanted.
     ensures well { (before after : At) (round : Round) → (Rose before.faults after.faults → ⊥)
-        → before.machine.read_only ≡ None → IsClosed before.machine → before.machine.state.next_file < 4294967294
+        → before.machine.read_only ≡ None → IsClosed before.machine
+        → before.machine.state.next_file < 4294967294
         → IsCompacted true before round after → IsDoneOrStarved round }
     // It leaves no job open in a store that writes, and the history as it was.
     ensures kept { (told : Bool) (before after : At) (round : Round) → IsClosed before.machine
-        → IsCompacted told before round after → IsClosed after.machine × (history_of after ≡ history_of before) }
+        → IsCompacted told before round after
+        → IsClosed after.machine × (history_of after ≡ history_of before) }
 {}
 
 /// Compactions one after another that each join blocks come to an end.
 pub fn compactions_come_to_an_end()
     // There are fewer than numbers of files. So an ingest comes to a compaction that joins none.
-    ensures bounded { (told : Bool) (items : List Item) (replies : List Reply) (first last : At) → AreJoined items replies
+    ensures bounded { (told : Bool) (items : List Item) (replies : List Reply) (first last : At)
+        → AreJoined items replies
         → Session told first items replies last → length items < 4294967295 }
     // Each leaves fewer blocks.
-    ensures fewer { (told : Bool) (items : List Item) (replies : List Reply) (first last : At) → AreJoined items replies
+    ensures fewer { (told : Bool) (items : List Item) (replies : List Reply) (first last : At)
+        → AreJoined items replies
         → Session told first items replies last
         → length items + length last.machine.state.blocks ≤ length first.machine.state.blocks }
 {}
@@ -324,17 +378,22 @@ pub fn reclaims_have_their_causes()
         → IsAnswered told (Ok Reclaim) before (Refused why) after → HasWriteCause why before after }
     // Else the store writes, and the reply says how many loose files no pin named: these are loose no more.
     ensures emptied { (told : Bool) (before after : At) (files : ℕ)
-        → IsAnswered told (Ok Reclaim) before (Reclaimed files) after → HasEmptied before.machine files after.machine }
+        → IsAnswered told (Ok Reclaim) before (Reclaimed files) after
+        → HasEmptied before.machine files after.machine }
 {}
 
 /// What upkeep leaves on a disk that shows its bytes.
 pub fn upkeep_stands_on_the_disk<D: Device>(old: &Core<D>, new: &Core<D>)
     // While a core writes, whatever a crash may leave lists the state for which the core stands.
-    ensures listed { (m : Machine) → CoreStandsFor D.Device.own old.now m → IsTrue (D.tells old.now.disk)
-        → m.read_only ≡ None → (image : Image) → D.may_leave old.now.disk image → ListsState image m.state }
+    ensures listed { (m : Machine) → CoreStandsFor D.Device.own old.now m
+        → IsTrue (D.tells old.now.disk)
+        → m.read_only ≡ None → (image : Image) → D.may_leave old.now.disk image
+        → ListsState image m.state }
     // Where all that a crash could leave was tidy, it is so at each moment of the calls that are made on it.
-    ensures tidy { (calls : List Call) → AreMade (port_of D.Device.own) old.now calls new.now → (m : Machine)
-        → CoreStandsFor D.Device.own old.now m → IsTrue (D.tells old.now.disk) → AreTidy (D.may_leave old.now.disk)
+    ensures tidy { (calls : List Call) → AreMade (port_of D.Device.own) old.now calls new.now
+        → (m : Machine)
+        → CoreStandsFor D.Device.own old.now m → IsTrue (D.tells old.now.disk)
+        → AreTidy (D.may_leave old.now.disk)
         → LeavesOnly D.moment D.left_since old.now.disk new.now.disk IsTidy }
 {}
 
@@ -342,7 +401,8 @@ pub fn upkeep_stands_on_the_disk<D: Device>(old: &Core<D>, new: &Core<D>)
 pub fn the_next_run_begins_as_listed<D: Device>(begun: &D, left: &D, disk: &D, later: &D)
     // A store that is opened on an image that lists a state begins with its blocks, segments and floor, and with the
     // log's rows from the floor on.
-    ensures begins { (image : Image) (u : State) (h : History) (moment : ℕ) (m : Machine) → ListsState image u
+    ensures begins { (image : Image) (u : State) (h : History) (moment : ℕ) (m : Machine)
+        → ListsState image u
         → ImageStandsFor image h → BeginsAs image moment m → BeginsListed image u moment m.state }
     // So does the next run on what an earlier one left that wrote to its end.
     ensures next_run { (one next : Outcome) → Recovers D.Device.own begun.now left.now one
@@ -350,6 +410,7 @@ pub fn the_next_run_begins_as_listed<D: Device>(begun: &D, left: &D, disk: &D, l
         → one.last.machine.read_only ≡ None → D.may_leave left.now (D.held disk.now)
         → BeginsListed (D.held disk.now) one.last.machine.state next.moment next.first.machine.state }
     // In a tidy image that lists a state a file that was given out is empty, or it is one of the state's.
-    ensures in_use { (image : Image) (u : State) (file : ℕ) → ListsState image u → IsTidy image → 2 ≤ file
+    ensures in_use { (image : Image) (u : State) (file : ℕ) → ListsState image u → IsTidy image
+        → 2 ≤ file
         → file < u.next_file → (bytes_of image file ≡ []) ⊎ (1 ≤ uses file u) }
 {}

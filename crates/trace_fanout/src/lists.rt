@@ -68,7 +68,8 @@ fn part_results<R: Threads + Sync>(
             move |part: &[Rows]| -> Result<Vec<TraceResult>, Memory>
                 requires { All IsOneTrace part.now }
                 ensures { IfOk result (λ found.
-                    Answers checked.entry.now.patterns (query_tree checked.entry.now.query) part.now found.items) }
+                    Answers checked.entry.now.patterns
+                    (query_tree checked.entry.now.query) part.now found.items) }
             { results_of(alloc, checked, part) },
         )
         .collect(rt, alloc)?;

@@ -122,7 +122,8 @@ fn part_results<R: Threads + Sync>(
     requires one { All (λ t. IsOneTrace t.rows.now) traces.now }
     requires some { 0 < size }
     ensures { IfOk result (λ parts. AllZip (λ part found. AreFirstAnswers checked.now.patterns
-        (query_tree checked.now.query) bounds (rows_of_each part) found.items) (chunks_of size traces.now) parts.items) }
+        (query_tree checked.now.query) bounds (rows_of_each part) found.items)
+        (chunks_of size traces.now) parts.items) }
 {
     let parts: Result<Vec<Vec<TraceResult>>, Memory> = traces
         .par_chunks(size)
@@ -131,7 +132,8 @@ fn part_results<R: Threads + Sync>(
             move |part: &[TraceInRange<'_>]| -> Result<Vec<TraceResult>, Memory>
                 requires { All (λ t. IsOneTrace t.rows.now) part.now }
                 ensures { IfOk result (λ found. AreFirstAnswers checked.entry.now.patterns
-                    (query_tree checked.entry.now.query) bounds (rows_of_each part.now) found.items) }
+                    (query_tree checked.entry.now.query) bounds
+                    (rows_of_each part.now) found.items) }
             { results_of(alloc, checked, bounds, part) },
         )
         .collect(rt, alloc)?;

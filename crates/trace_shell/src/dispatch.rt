@@ -42,20 +42,24 @@ pub(crate) fn dispatch<S: Source, K: Sink, D: Device, C: Clock, P: PatternMaker,
     patterns: &mut P,
     gate: &G,
 ) -> (Ending, D)
-    ensures ran { (o : Outcome) × (o.ending ≡ result.0) × RefusesOnly P.makes patterns.old patterns.new o.refused
+    ensures ran { (o : Outcome) × (o.ending ≡ result.0)
+        × RefusesOnly P.makes patterns.old patterns.new o.refused
         × IsRunOf false (map string_bytes words.now) o
         (edges S.left S.faults K.taken K.faults C.moments D.Device.own source.old sink.old clock.old disk)
         (edges S.left S.faults K.taken K.faults C.moments D.Device.own source.new sink.new clock.new result.1) }
     ensures recovers { IsTrue (D.tells disk) → IsSoundImage (D.held disk)
-        → (o : Outcome) × (o.ending ≡ result.0) × RefusesOnly P.makes patterns.old patterns.new o.refused
+        → (o : Outcome) × (o.ending ≡ result.0)
+        × RefusesOnly P.makes patterns.old patterns.new o.refused
         × IsRunOf true (map string_bytes words.now) o
         (edges S.left S.faults K.taken K.faults C.moments D.Device.own source.old sink.old clock.old disk)
         (edges S.left S.faults K.taken K.faults C.moments D.Device.own source.new sink.new clock.new result.1)
         × Recovers D.Device.own disk result.1 o }
     ensures nothing_done { fault_of words_app (map string_bytes words.now) ≢ []
-        → (source.new ≡ source.old) × (sink.new ≡ sink.old) × (result.1 ≡ disk) × (clock.new ≡ clock.old)
+        → (source.new ≡ source.old) × (sink.new ≡ sink.old) × (result.1 ≡ disk)
+        × (clock.new ≡ clock.old)
         × (patterns.new ≡ patterns.old) }
-    ensures left { IsTrue (D.tells disk) → (file at : ℕ) → StoreBreaks (D.held disk) file at → result.0 ≢ NotOpened
+    ensures left { IsTrue (D.tells disk) → (file at : ℕ) → StoreBreaks (D.held disk) file at
+        → result.0 ≢ NotOpened
         → LeavesAlone D.Device.own disk result.1 }
     ensures unread { (IsPastOpening result.0 → ⊥) → source.new ≡ source.old }
     ensures alone { (line : List ℕ) → Spells (map string_bytes words.now) (Alone line)
@@ -79,17 +83,20 @@ fn on_store<S: Source, K: Sink, D: Device, C: Clock, P: PatternMaker, G: Gate>(
     patterns: &mut P,
     gate: &G,
 ) -> (Ending, D)
-    ensures ran { (o : Outcome) × (o.ending ≡ result.0) × RefusesOnly P.makes patterns.old patterns.new o.refused
+    ensures ran { (o : Outcome) × (o.ending ≡ result.0)
+        × RefusesOnly P.makes patterns.old patterns.new o.refused
         × HasDone false (command_of asked) o
         (edges S.left S.faults K.taken K.faults C.moments D.Device.own source.old sink.old clock.old disk)
         (edges S.left S.faults K.taken K.faults C.moments D.Device.own source.new sink.new clock.new result.1) }
     ensures recovers { IsTrue (D.tells disk) → IsSoundImage (D.held disk)
-        → (o : Outcome) × (o.ending ≡ result.0) × RefusesOnly P.makes patterns.old patterns.new o.refused
+        → (o : Outcome) × (o.ending ≡ result.0)
+        × RefusesOnly P.makes patterns.old patterns.new o.refused
         × HasDone true (command_of asked) o
         (edges S.left S.faults K.taken K.faults C.moments D.Device.own source.old sink.old clock.old disk)
         (edges S.left S.faults K.taken K.faults C.moments D.Device.own source.new sink.new clock.new result.1)
         × Recovers D.Device.own disk result.1 o }
-    ensures left { IsTrue (D.tells disk) → (file at : ℕ) → StoreBreaks (D.held disk) file at → result.0 ≢ NotOpened
+    ensures left { IsTrue (D.tells disk) → (file at : ℕ) → StoreBreaks (D.held disk) file at
+        → result.0 ≢ NotOpened
         → LeavesAlone D.Device.own disk result.1 }
     ensures unread { (IsPastOpening result.0 → ⊥) → source.new ≡ source.old }
     ensures alone { (line : List ℕ) → command_of asked ≡ Alone line → source.new ≡ source.old }
@@ -119,11 +126,13 @@ fn do_asked<S: Source, K: Sink, D: Device, C: Clock, P: PatternMaker, G: Gate>(
     requires { (held : List Hold) × (port_of D.Device.own).holds core.old held }
     ensures came { (items : List Item) × (replies : List Reply) × (blamed : List (List ℕ))
         × RefusesOnly P.makes patterns.old patterns.new blamed
-        × CameOver (command_of asked) D.Device.own core.old core.new (S.left source.old) (K.taken sink.old) (C.moments clock.old)
+        × CameOver (command_of asked) D.Device.own core.old core.new (S.left source.old)
+        (K.taken sink.old) (C.moments clock.old)
         (S.left source.new) (K.taken sink.new) (C.moments clock.new) result items replies blamed }
     ensures write_fault { result ≡ WriteFault → Rose (K.faults sink.old) (K.faults sink.new) }
     ensures read_fault { result ≡ ReadFault → Rose (S.faults source.old) (S.faults source.new) }
-    ensures spent { result ≡ Spent → TakesBytes (S.left source.old) (S.left source.new) 0 taken_limit }
+    ensures spent { result ≡ Spent
+        → TakesBytes (S.left source.old) (S.left source.new) 0 taken_limit }
     ensures endings { IsPastOpening result }
     ensures alone { (line : List ℕ) → command_of asked ≡ Alone line → source.new ≡ source.old }
 {

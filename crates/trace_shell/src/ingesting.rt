@@ -62,12 +62,14 @@ pub(crate) fn ingest<S: Source, K: Sink, D: Device, C: Clock, G: Gate>(
     ensures ran { (items : List Item) × (replies : List Reply)
         × HasAnsweredOver (port_of D.Device.own) core.old items replies core.new
         × ((text before : List ℕ) → S.left source.old ≡ Some text → K.taken sink.old ≡ Some before
-        → CameByLines (λ todo rest. FollowsOver D.Device.own todo (C.moments clock.old) core.old items replies
+        → CameByLines (λ todo rest.
+        FollowsOver D.Device.own todo (C.moments clock.old) core.old items replies
         core.new rest
         (C.moments clock.new)) text before (S.left source.new) (K.taken sink.new) result replies) }
     ensures write_fault { result ≡ WriteFault → Rose (K.faults sink.old) (K.faults sink.new) }
     ensures read_fault { result ≡ ReadFault → Rose (S.faults source.old) (S.faults source.new) }
-    ensures spent { result ≡ Spent → TakesBytes (S.left source.old) (S.left source.new) 0 taken_limit }
+    ensures spent { result ≡ Spent
+        → TakesBytes (S.left source.old) (S.left source.new) 0 taken_limit }
     ensures endings { IsPastOpening result }
 {
     let mut tally = Tally::new();
@@ -93,19 +95,23 @@ fn push_all<S: Source, K: Sink, D: Device, C: Clock, G: Gate>(
 ) -> Option<Ending>
     requires { (held : List Hold) × (port_of D.Device.own).holds core.old held }
     ensures pushed { (items : List Item) × (replies : List Reply) × (stopped : Option Ending)
-        × HasAsked D.Device.own core.old core.new (K.taken sink.old) (K.taken sink.new) tally.old tally.new items
+        × HasAsked D.Device.own core.old core.new (K.taken sink.old)
+        (K.taken sink.new) tally.old tally.new items
         replies stopped
         × IsStopped result stopped
         × ((text : List ℕ) → S.left source.old ≡ Some text → (pushed : List (List ℕ))
-        × ((later : List (List ℕ)) → Leaves D.Device.own core.old core.new (from_lines (pushed ++ later))
+        × ((later : List (List ℕ))
+        → Leaves D.Device.own core.old core.new (from_lines (pushed ++ later))
         (from_lines later)
         (C.moments clock.old) (C.moments clock.new) items replies stopped)
         × HasReadTo result text pushed (S.left source.new)) }
     ensures sink_counted { K.faults sink.old ≤ K.faults sink.new }
-    ensures write_fault { IfSome result (λ ending. ending ≡ WriteFault → Rose (K.faults sink.old) (K.faults sink.new)) }
+    ensures write_fault { IfSome result (λ ending. ending ≡ WriteFault
+        → Rose (K.faults sink.old) (K.faults sink.new)) }
     ensures read_fault { IfSome result (λ ending. ending ≡ ReadFault → Rose (S.faults source.old)
         (S.faults source.new)) }
-    ensures spent { IfSome result (λ ending. ending ≡ Spent → TakesBytes (S.left source.old) (S.left source.new) 0
+    ensures spent { IfSome result (λ ending. ending ≡ Spent
+        → TakesBytes (S.left source.old) (S.left source.new) 0
         taken_limit) }
     ensures endings { IfSome result IsPastOpening }
 {
@@ -132,24 +138,31 @@ fn push_next<S: Source, K: Sink, D: Device, C: Clock, G: Gate>(
 ) -> After
     requires { (held : List Hold) × (port_of D.Device.own).holds core.old held }
     ensures pushed { (items : List Item) × (replies : List Reply) × (stopped : Option Ending)
-        × HasAsked D.Device.own core.old core.new (K.taken sink.old) (K.taken sink.new) tally.old tally.new items
+        × HasAsked D.Device.own core.old core.new (K.taken sink.old)
+        (K.taken sink.new) tally.old tally.new items
         replies stopped
         × IsStopped (ending_in result) stopped
-        × ((text : List ℕ) (pushed : List (List ℕ)) → IsReadingAt text pushed (S.left source.old) reader.old
+        × ((text : List ℕ) (pushed : List (List ℕ))
+        → IsReadingAt text pushed (S.left source.old) reader.old
         → (asked : List (List ℕ))
-        × ((later : List (List ℕ)) → Leaves D.Device.own core.old core.new (from_lines (asked ++ later))
+        × ((later : List (List ℕ))
+        → Leaves D.Device.own core.old core.new (from_lines (asked ++ later))
         (from_lines later)
         (C.moments clock.old) (C.moments clock.new) items replies stopped)
         × ReadOn result text (pushed ++ asked) (S.left source.new) reader.new) }
     ensures nearer { result ≡ After.Line → to_come reader.new < to_come reader.old }
     ensures source_counted { S.faults source.old ≤ S.faults source.new }
     ensures sink_counted { K.faults sink.old ≤ K.faults sink.new }
-    ensures write_fault { IfSome (ending_in result) (λ ending. ending ≡ WriteFault → Rose (K.faults sink.old)
+    ensures write_fault { IfSome (ending_in result) (λ ending. ending ≡ WriteFault
+        → Rose (K.faults sink.old)
         (K.faults sink.new)) }
-    ensures read_fault { IfSome (ending_in result) (λ ending. ending ≡ ReadFault → Rose (S.faults source.old)
+    ensures read_fault { IfSome (ending_in result) (λ ending. ending ≡ ReadFault
+        → Rose (S.faults source.old)
         (S.faults source.new)) }
-    ensures took { TakesBytes (S.left source.old) (S.left source.new) reader.old.taken reader.new.taken }
-    ensures spent { IfSome (ending_in result) (λ ending. ending ≡ Spent → reader.new.taken ≡ taken_limit) }
+    ensures took { TakesBytes (S.left source.old)
+        (S.left source.new) reader.old.taken reader.new.taken }
+    ensures spent { IfSome (ending_in result) (λ ending. ending ≡ Spent
+        → reader.new.taken ≡ taken_limit) }
     ensures endings { IfSome (ending_in result) IsPastOpening }
 {
     let line = match reader.next(source) {
@@ -193,13 +206,16 @@ fn push_line<K: Sink, D: Device, C: Clock, G: Gate>(
 ) -> Option<Ending>
     requires { (held : List Hold) × (port_of D.Device.own).holds core.old held }
     ensures pushed { (items : List Item) × (replies : List Reply)
-        × HasAsked D.Device.own core.old core.new (K.taken sink.old) (K.taken sink.new) tally.old tally.new items
+        × HasAsked D.Device.own core.old core.new (K.taken sink.old)
+        (K.taken sink.new) tally.old tally.new items
         replies result
-        × ((later : List (List ℕ)) → Leaves D.Device.own core.old core.new (from_lines (line.now ∷ later))
+        × ((later : List (List ℕ))
+        → Leaves D.Device.own core.old core.new (from_lines (line.now ∷ later))
         (from_lines later)
         (C.moments clock.old) (C.moments clock.new) items replies result) }
     ensures sink_counted { K.faults sink.old ≤ K.faults sink.new }
-    ensures write_fault { IfSome result (λ ending. ending ≡ WriteFault → Rose (K.faults sink.old) (K.faults sink.new)) }
+    ensures write_fault { IfSome result (λ ending. ending ≡ WriteFault
+        → Rose (K.faults sink.old) (K.faults sink.new)) }
     ensures endings { IfSome result (λ ending. (ending ≡ WriteFault) ⊎ (ending ≡ Starved)) }
 {
     if line.is_empty() {
@@ -219,7 +235,8 @@ fn push<D: Device, G: Gate>(
     moment: u64,
 ) -> Reply
     requires { (held : List Hold) × (port_of D.Device.own).holds core.old held }
-    ensures { (item : Item) × AsksPush moment line.now item × HasAnsweredOne (port_of D.Device.own) core.old item
+    ensures { (item : Item) × AsksPush moment line.now item
+        × HasAnsweredOne (port_of D.Device.own) core.old item
         result core.new }
 {
     match read_push(alloc, line, moment) {
@@ -241,13 +258,15 @@ fn refuse_long<K: Sink, D: Device, C: Clock, G: Gate>(
     requires holds { (held : List Hold) × (port_of D.Device.own).holds core.old held }
     requires long { line_limit < length }
     ensures pushed { (items : List Item) × (replies : List Reply)
-        × HasAsked D.Device.own core.old core.new (K.taken sink.old) (K.taken sink.new) tally.old tally.new items
+        × HasAsked D.Device.own core.old core.new (K.taken sink.old)
+        (K.taken sink.new) tally.old tally.new items
         replies result
         × ((line : List ℕ) (later : List (List ℕ)) → IsLong length line
         → Leaves D.Device.own core.old core.new (from_lines (line ∷ later)) (from_lines later)
         (C.moments clock.old) (C.moments clock.new) items replies result) }
     ensures sink_counted { K.faults sink.old ≤ K.faults sink.new }
-    ensures write_fault { IfSome result (λ ending. ending ≡ WriteFault → Rose (K.faults sink.old) (K.faults sink.new)) }
+    ensures write_fault { IfSome result (λ ending. ending ≡ WriteFault
+        → Rose (K.faults sink.old) (K.faults sink.new)) }
     ensures endings { IfSome result (λ ending. (ending ≡ WriteFault) ⊎ (ending ≡ Starved)) }
 {
     // A line that is refused unread takes a moment of the clock like any other.
@@ -268,11 +287,13 @@ fn end_line<K: Sink, D: Device, G: Gate>(
     requires { (held : List Hold) × (port_of D.Device.own).holds core.old held }
     ensures ended { (items : List Item) × (replies : List Reply)
         × HasAnsweredOver (port_of D.Device.own) core.old items replies core.new
-        × HaveGiven (K.taken sink.old) (K.taken sink.new) tally.old tally.new (reply.now ∷ replies) result
+        × HaveGiven (K.taken sink.old) (K.taken sink.new) tally.old tally.new
+        (reply.now ∷ replies) result
         × ((later : List (List ℕ)) (told : Option (List ℕ)) → Leaves D.Device.own core.old core.new
         (to_keep_small ∷ from_lines later) (from_lines later) told told items replies result) }
     ensures sink_counted { K.faults sink.old ≤ K.faults sink.new }
-    ensures write_fault { IfSome result (λ ending. ending ≡ WriteFault → Rose (K.faults sink.old) (K.faults sink.new)) }
+    ensures write_fault { IfSome result (λ ending. ending ≡ WriteFault
+        → Rose (K.faults sink.old) (K.faults sink.new)) }
     ensures endings { IfSome result (λ ending. (ending ≡ WriteFault) ⊎ (ending ≡ Starved)) }
 {
     match write(alloc, tally, sink, reply) {
@@ -291,12 +312,14 @@ fn keep_small<K: Sink, D: Device, G: Gate>(
 ) -> Option<Ending>
     requires { (held : List Hold) × (port_of D.Device.own).holds core.old held }
     ensures kept { (items : List Item) × (replies : List Reply)
-        × HasAsked D.Device.own core.old core.new (K.taken sink.old) (K.taken sink.new) tally.old tally.new items
+        × HasAsked D.Device.own core.old core.new (K.taken sink.old)
+        (K.taken sink.new) tally.old tally.new items
         replies result
         × ((later : List (List ℕ)) (told : Option (List ℕ)) → Leaves D.Device.own core.old core.new
         (to_keep_small ∷ from_lines later) (from_lines later) told told items replies result) }
     ensures sink_counted { K.faults sink.old ≤ K.faults sink.new }
-    ensures write_fault { IfSome result (λ ending. ending ≡ WriteFault → Rose (K.faults sink.old) (K.faults sink.new)) }
+    ensures write_fault { IfSome result (λ ending. ending ≡ WriteFault
+        → Rose (K.faults sink.old) (K.faults sink.new)) }
     ensures endings { IfSome result (λ ending. (ending ≡ WriteFault) ⊎ (ending ≡ Starved)) }
 {
     if core.held_now() < MANY_ROWS {
@@ -315,12 +338,14 @@ fn cut_and_flush<K: Sink, D: Device, G: Gate>(
 ) -> Option<Ending>
     requires { (held : List Hold) × (port_of D.Device.own).holds core.old held }
     ensures made { (items : List Item) × (replies : List Reply)
-        × HasAsked D.Device.own core.old core.new (K.taken sink.old) (K.taken sink.new) tally.old tally.new items
+        × HasAsked D.Device.own core.old core.new (K.taken sink.old)
+        (K.taken sink.new) tally.old tally.new items
         replies result
         × ((later : List Duty) (told : Option (List ℕ)) → Leaves D.Device.own core.old core.new
         (to_ask AsksCutAll ∷ to_ask AsksFlush ∷ later) later told told items replies result) }
     ensures sink_counted { K.faults sink.old ≤ K.faults sink.new }
-    ensures write_fault { IfSome result (λ ending. ending ≡ WriteFault → Rose (K.faults sink.old) (K.faults sink.new)) }
+    ensures write_fault { IfSome result (λ ending. ending ≡ WriteFault
+        → Rose (K.faults sink.old) (K.faults sink.new)) }
     ensures endings { IfSome result (λ ending. (ending ≡ WriteFault) ⊎ (ending ≡ Starved)) }
 {
     match ask(alloc, tally, sink, core, gate, Request::CutAll) {
@@ -339,13 +364,16 @@ fn finish<K: Sink, D: Device, G: Gate>(
 ) -> Ending
     requires { (held : List Hold) × (port_of D.Device.own).holds core.old held }
     ensures finished { (items : List Item) × (replies : List Reply) × (stopped : Option Ending)
-        × HasAsked D.Device.own core.old core.new (K.taken sink.old) (K.taken sink.new) tally.old tally.new items
+        × HasAsked D.Device.own core.old core.new (K.taken sink.old)
+        (K.taken sink.new) tally.old tally.new items
         replies stopped
         × (result ≡ ended_by stopped tally.new)
-        × ((told : Option (List ℕ)) → Leaves D.Device.own core.old core.new at_the_end [] told told items replies
+        × ((told : Option (List ℕ))
+        → Leaves D.Device.own core.old core.new at_the_end [] told told items replies
         stopped) }
     ensures write_fault { result ≡ WriteFault → Rose (K.faults sink.old) (K.faults sink.new) }
-    ensures endings { (result ≡ WriteFault) ⊎ ((result ≡ Answered) ⊎ ((result ≡ Refused) ⊎ (result ≡ Starved))) }
+    ensures endings { (result ≡ WriteFault)
+        ⊎ ((result ≡ Answered) ⊎ ((result ≡ Refused) ⊎ (result ≡ Starved))) }
 {
     match keep_up(alloc, tally, sink, core, gate) {
         Some(ending) => ending,
@@ -363,12 +391,15 @@ fn keep_up<K: Sink, D: Device, G: Gate>(
 ) -> Option<Ending>
     requires { (held : List Hold) × (port_of D.Device.own).holds core.old held }
     ensures made { (items : List Item) × (replies : List Reply)
-        × HasAsked D.Device.own core.old core.new (K.taken sink.old) (K.taken sink.new) tally.old tally.new items
+        × HasAsked D.Device.own core.old core.new (K.taken sink.old)
+        (K.taken sink.new) tally.old tally.new items
         replies result
-        × ((told : Option (List ℕ)) → Leaves D.Device.own core.old core.new at_the_end [] told told items replies
+        × ((told : Option (List ℕ))
+        → Leaves D.Device.own core.old core.new at_the_end [] told told items replies
         result) }
     ensures sink_counted { K.faults sink.old ≤ K.faults sink.new }
-    ensures write_fault { IfSome result (λ ending. ending ≡ WriteFault → Rose (K.faults sink.old) (K.faults sink.new)) }
+    ensures write_fault { IfSome result (λ ending. ending ≡ WriteFault
+        → Rose (K.faults sink.old) (K.faults sink.new)) }
     ensures endings { IfSome result (λ ending. (ending ≡ WriteFault) ⊎ (ending ≡ Starved)) }
 {
     match cut_and_flush(alloc, tally, sink, core, gate) {
@@ -387,12 +418,14 @@ fn compact_and_reclaim<K: Sink, D: Device, G: Gate>(
 ) -> Option<Ending>
     requires { (held : List Hold) × (port_of D.Device.own).holds core.old held }
     ensures made { (items : List Item) × (replies : List Reply)
-        × HasAsked D.Device.own core.old core.new (K.taken sink.old) (K.taken sink.new) tally.old tally.new items
+        × HasAsked D.Device.own core.old core.new (K.taken sink.old)
+        (K.taken sink.new) tally.old tally.new items
         replies result
         × ((told : Option (List ℕ)) → Leaves D.Device.own core.old core.new
         (to_compact_all most_rounds ∷ to_ask AsksReclaim ∷ []) [] told told items replies result) }
     ensures sink_counted { K.faults sink.old ≤ K.faults sink.new }
-    ensures write_fault { IfSome result (λ ending. ending ≡ WriteFault → Rose (K.faults sink.old) (K.faults sink.new)) }
+    ensures write_fault { IfSome result (λ ending. ending ≡ WriteFault
+        → Rose (K.faults sink.old) (K.faults sink.new)) }
     ensures endings { IfSome result (λ ending. (ending ≡ WriteFault) ⊎ (ending ≡ Starved)) }
 {
     match compact_all(alloc, tally, sink, core, gate) {
@@ -411,12 +444,16 @@ fn compact_all<K: Sink, D: Device, G: Gate>(
 ) -> Option<Ending>
     requires { (held : List Hold) × (port_of D.Device.own).holds core.old held }
     ensures made { (items : List Item) × (replies : List Reply)
-        × HasAsked D.Device.own core.old core.new (K.taken sink.old) (K.taken sink.new) tally.old tally.new items
+        × HasAsked D.Device.own core.old core.new (K.taken sink.old)
+        (K.taken sink.new) tally.old tally.new items
         replies result
-        × ((asked : Request) (later : List Duty) (told : Option (List ℕ)) → Leaves D.Device.own core.old core.new
-        (to_compact_all most_rounds ∷ to_ask asked ∷ later) (to_ask asked ∷ later) told told items replies result) }
+        × ((asked : Request) (later : List Duty) (told : Option (List ℕ))
+        → Leaves D.Device.own core.old core.new
+        (to_compact_all most_rounds ∷ to_ask asked ∷ later)
+        (to_ask asked ∷ later) told told items replies result) }
     ensures sink_counted { K.faults sink.old ≤ K.faults sink.new }
-    ensures write_fault { IfSome result (λ ending. ending ≡ WriteFault → Rose (K.faults sink.old) (K.faults sink.new)) }
+    ensures write_fault { IfSome result (λ ending. ending ≡ WriteFault
+        → Rose (K.faults sink.old) (K.faults sink.new)) }
     ensures endings { IfSome result (λ ending. (ending ≡ WriteFault) ⊎ (ending ≡ Starved)) }
 {
     'rounds: for _ in 0..MOST_ROUNDS {
@@ -439,14 +476,18 @@ fn compact_once<K: Sink, D: Device, G: Gate>(
 ) -> Result<bool, Ending>
     requires { (held : List Hold) × (port_of D.Device.own).holds core.old held }
     ensures made { (reply : Reply)
-        × HasAsked D.Device.own core.old core.new (K.taken sink.old) (K.taken sink.new) tally.old tally.new
+        × HasAsked D.Device.own core.old core.new (K.taken sink.old)
+        (K.taken sink.new) tally.old tally.new
         (Ok AsksCompact ∷ []) (reply ∷ []) (stopped_in result)
         × IfOk result (λ joined. joined ≡ is_joined reply)
-        × ((times : ℕ) (later : List Duty) (told : Option (List ℕ)) → 0 < times → Leaves D.Device.own core.old core.new
-        (to_compact_all times ∷ later) (if is_joined reply then to_compact_all (times - 1) ∷ later else later) told told
+        × ((times : ℕ) (later : List Duty) (told : Option (List ℕ)) → 0 < times
+        → Leaves D.Device.own core.old core.new
+        (to_compact_all times ∷ later)
+        (if is_joined reply then to_compact_all (times - 1) ∷ later else later) told told
         (Ok AsksCompact ∷ []) (reply ∷ []) (stopped_in result)) }
     ensures sink_counted { K.faults sink.old ≤ K.faults sink.new }
-    ensures write_fault { IfErr result (λ ending. ending ≡ WriteFault → Rose (K.faults sink.old) (K.faults sink.new)) }
+    ensures write_fault { IfErr result (λ ending. ending ≡ WriteFault
+        → Rose (K.faults sink.old) (K.faults sink.new)) }
     ensures endings { IfErr result (λ ending. (ending ≡ WriteFault) ⊎ (ending ≡ Starved)) }
 {
     let reply = answer_request(alloc, core, Request::Compact, CLIENT, gate);
@@ -474,12 +515,14 @@ fn ask<K: Sink, D: Device, G: Gate>(
 ) -> Option<Ending>
     requires { (held : List Hold) × (port_of D.Device.own).holds core.old held }
     ensures made { (items : List Item) × (replies : List Reply)
-        × HasAsked D.Device.own core.old core.new (K.taken sink.old) (K.taken sink.new) tally.old tally.new items
+        × HasAsked D.Device.own core.old core.new (K.taken sink.old)
+        (K.taken sink.new) tally.old tally.new items
         replies result
         × ((later : List Duty) (told : Option (List ℕ)) → Leaves D.Device.own core.old core.new
         (to_ask request ∷ later) later told told items replies result) }
     ensures sink_counted { K.faults sink.old ≤ K.faults sink.new }
-    ensures write_fault { IfSome result (λ ending. ending ≡ WriteFault → Rose (K.faults sink.old) (K.faults sink.new)) }
+    ensures write_fault { IfSome result (λ ending. ending ≡ WriteFault
+        → Rose (K.faults sink.old) (K.faults sink.new)) }
     ensures endings { IfSome result (λ ending. (ending ≡ WriteFault) ⊎ (ending ≡ Starved)) }
 {
     let reply = answer_request(alloc, core, request, CLIENT, gate);

@@ -37,8 +37,10 @@ pub struct Given {
 /// The folder and the words among the arguments of the program: its name, the store's folder, and then the words; or
 /// how the program ends. Where the folder is missing or an argument isn't UTF-8 the command line is faulty.
 pub fn folder_and_words(arguments: Result<Vec<String>, Unread>) -> Result<Given, Ending>
-    ensures given { IfOk result (λ given. given_by arguments ≡ Some (string_bytes given.folder, map string_bytes given.words.items)) }
-    ensures none { IfErr result (λ ending. (given_by arguments ≡ None) × (ending ≡ ending_without arguments)) }
+    ensures given { IfOk result (λ given.
+        given_by arguments ≡ Some (string_bytes given.folder, map string_bytes given.words.items)) }
+    ensures none { IfErr result
+        (λ ending. (given_by arguments ≡ None) × (ending ≡ ending_without arguments)) }
 {
     let mut arguments = match arguments {
         Ok(arguments) => arguments,

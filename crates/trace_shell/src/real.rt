@@ -40,7 +40,8 @@ impl<R: Read> Source for StdinSource<R> {
         ensures failed { OnErr result (Rose self.old.faults self.new.faults) }
 
         // What is taken is what the reader gives.
-        ensures reads { ReadConsumes (R.remaining (reader_of self.old)) (R.remaining (reader_of self.new)) result buf.new }
+        ensures reads { ReadConsumes (R.remaining (reader_of self.old))
+            (R.remaining (reader_of self.new)) result buf.new }
     {
         match self.reader.read(buf) {
             Ok(count) => Ok(count),
@@ -81,7 +82,9 @@ impl<W: Write> Sink for StdoutSink<W> {
         ensures failed { OnErr result (Rose self.old.faults self.new.faults) }
 
         // What is put is given to the writer, whole where the call is Ok.
-        ensures writes { OnOk result (Appends (W.contents (writer_of self.old)) (W.contents (writer_of self.new)) bytes.now) }
+        ensures writes { OnOk result
+            (Appends (W.contents (writer_of self.old))
+            (W.contents (writer_of self.new)) bytes.now) }
     {
         match self.writer.write_all(bytes) {
             Ok(()) => Ok(()),

@@ -112,11 +112,13 @@ pub(crate) fn session<S: Source, K: Sink, Q: Port, C: Clock, P: PatternMaker, G:
         × RefusesOnly P.makes patterns.old patterns.new blamed
         × HasAnsweredOver Q.meaning port.old items replies port.new
         × ((text before : List ℕ) → S.left source.old ≡ Some text → K.taken sink.old ≡ Some before
-        → Came (C.moments clock.old) text before (S.left source.new) (K.taken sink.new) (C.moments clock.new) result
+        → Came (C.moments clock.old) text before (S.left source.new) (K.taken sink.new)
+        (C.moments clock.new) result
         items replies blamed) }
     ensures write_fault { result ≡ WriteFault → Rose (K.faults sink.old) (K.faults sink.new) }
     ensures read_fault { result ≡ ReadFault → Rose (S.faults source.old) (S.faults source.new) }
-    ensures spent { result ≡ Spent → TakesBytes (S.left source.old) (S.left source.new) 0 taken_limit }
+    ensures spent { result ≡ Spent
+        → TakesBytes (S.left source.old) (S.left source.new) 0 taken_limit }
     ensures endings { IsPastOpening result }
 {
     let mut reader = LineReader::new(alloc);
@@ -153,10 +155,12 @@ pub(crate) fn one_line<K: Sink, Q: Port, C: Clock, P: PatternMaker, G: Gate>(
         × RefusesOnly P.makes patterns.old patterns.new blamed
         × HasAnsweredOne Q.meaning port.old item reply port.new
         × AsksNext (C.moments clock.old) line.now blamed item
-        × ((before : List ℕ) → K.taken sink.old ≡ Some before → EndsAlone result before reply (K.taken sink.new)) }
+        × ((before : List ℕ) → K.taken sink.old ≡ Some before
+        → EndsAlone result before reply (K.taken sink.new)) }
     ensures clock { C.moments clock.new ≡ after_moment (C.moments clock.old) }
     ensures write_fault { result ≡ WriteFault → Rose (K.faults sink.old) (K.faults sink.new) }
-    ensures endings { (result ≡ WriteFault) ⊎ ((result ≡ Answered) ⊎ ((result ≡ Refused) ⊎ (result ≡ Starved))) }
+    ensures endings { (result ≡ WriteFault)
+        ⊎ ((result ≡ Answered) ⊎ ((result ≡ Refused) ⊎ (result ≡ Starved))) }
 {
     let mut tally = Tally::new();
     let moment = clock.now();
@@ -181,18 +185,25 @@ fn next_line<S: Source, K: Sink, Q: Port, C: Clock, P: PatternMaker, G: Gate>(
 ) -> Option<Ending>
     requires { (held : List Hold) × Q.meaning.holds port.old held }
     ensures turned { (more : List (List ℕ)) × RefusesOnly P.makes patterns.old patterns.new more
-        × (asked : List Item) × (given : List Reply) × HasAnsweredOver Q.meaning port.old asked given port.new
-        × ((told : Option (List ℕ)) (text before : List ℕ) (items : List Item) (replies : List Reply) (blamed : List (List ℕ))
-        → IsAt told text before (S.left source.old) (K.taken sink.old) (C.moments clock.old) reader.old tally.old
+        × (asked : List Item) × (given : List Reply)
+        × HasAnsweredOver Q.meaning port.old asked given port.new
+        × ((told : Option (List ℕ)) (text before : List ℕ) (items : List Item)
+        (replies : List Reply) (blamed : List (List ℕ))
+        → IsAt told text before (S.left source.old) (K.taken sink.old)
+        (C.moments clock.old) reader.old tally.old
         items replies blamed
-        → Turned told text before (S.left source.new) (K.taken sink.new) (C.moments clock.new) reader.new tally.new
+        → Turned told text before (S.left source.new) (K.taken sink.new)
+        (C.moments clock.new) reader.new tally.new
         (items ++ asked) (replies ++ given) (blamed ++ more) result) }
     ensures nearer { IfNone result (to_come reader.new < to_come reader.old) }
     ensures source_counted { S.faults source.old ≤ S.faults source.new }
     ensures sink_counted { K.faults sink.old ≤ K.faults sink.new }
-    ensures write_fault { IfSome result (λ ending. ending ≡ WriteFault → Rose (K.faults sink.old) (K.faults sink.new)) }
-    ensures read_fault { IfSome result (λ ending. ending ≡ ReadFault → Rose (S.faults source.old) (S.faults source.new)) }
-    ensures took { TakesBytes (S.left source.old) (S.left source.new) reader.old.taken reader.new.taken }
+    ensures write_fault { IfSome result (λ ending. ending ≡ WriteFault
+        → Rose (K.faults sink.old) (K.faults sink.new)) }
+    ensures read_fault { IfSome result (λ ending. ending ≡ ReadFault
+        → Rose (S.faults source.old) (S.faults source.new)) }
+    ensures took { TakesBytes (S.left source.old)
+        (S.left source.new) reader.old.taken reader.new.taken }
     ensures spent { IfSome result (λ ending. ending ≡ Spent → reader.new.taken ≡ taken_limit) }
     ensures endings { IfSome result IsPastOpening }
 {
@@ -230,14 +241,18 @@ fn answer_line<K: Sink, Q: Port, C: Clock, P: PatternMaker, G: Gate>(
     line: &[u8],
 ) -> Option<Ending>
     requires { (held : List Hold) × Q.meaning.holds port.old held }
-    ensures empty { line.now ≡ [] → (result ≡ None) × (port.new ≡ port.old) × (tally.new ≡ tally.old)
+    ensures empty { line.now ≡ []
+        → (result ≡ None) × (port.new ≡ port.old) × (tally.new ≡ tally.old)
         × (sink.new ≡ sink.old) × (clock.new ≡ clock.old) × (patterns.new ≡ patterns.old) }
-    ensures answered { 0 < length line.now → (more : List (List ℕ)) × RefusesOnly P.makes patterns.old patterns.new more
+    ensures answered { 0 < length line.now
+        → (more : List (List ℕ)) × RefusesOnly P.makes patterns.old patterns.new more
         × (item : Item) × (reply : Reply) × HasAnsweredOne Q.meaning port.old item reply port.new
-        × AsksNext (C.moments clock.old) line.now more item × (C.moments clock.new ≡ after_moment (C.moments clock.old))
+        × AsksNext (C.moments clock.old) line.now more item
+        × (C.moments clock.new ≡ after_moment (C.moments clock.old))
         × HasGiven (K.taken sink.old) (K.taken sink.new) tally.old tally.new reply result }
     ensures sink_counted { K.faults sink.old ≤ K.faults sink.new }
-    ensures write_fault { IfSome result (λ ending. ending ≡ WriteFault → Rose (K.faults sink.old) (K.faults sink.new)) }
+    ensures write_fault { IfSome result (λ ending. ending ≡ WriteFault
+        → Rose (K.faults sink.old) (K.faults sink.new)) }
     ensures endings { IfSome result (λ ending. (ending ≡ WriteFault) ⊎ (ending ≡ Starved)) }
 {
     if line.is_empty() {
@@ -256,10 +271,12 @@ fn refuse_line<K: Sink, C: Clock>(
     clock: &mut C,
     length: u64,
 ) -> Option<Ending>
-    ensures given { HasGiven (K.taken sink.old) (K.taken sink.new) tally.old tally.new (IsRefused (TooLong length)) result }
+    ensures given { HasGiven (K.taken sink.old) (K.taken sink.new) tally.old tally.new
+        (IsRefused (TooLong length)) result }
     ensures clock { C.moments clock.new ≡ after_moment (C.moments clock.old) }
     ensures sink_counted { K.faults sink.old ≤ K.faults sink.new }
-    ensures write_fault { IfSome result (λ ending. ending ≡ WriteFault → Rose (K.faults sink.old) (K.faults sink.new)) }
+    ensures write_fault { IfSome result (λ ending. ending ≡ WriteFault
+        → Rose (K.faults sink.old) (K.faults sink.new)) }
     ensures endings { IfSome result (λ ending. (ending ≡ WriteFault) ⊎ (ending ≡ Starved)) }
 {
     // A line that is refused unread takes a moment of the clock like any other.
@@ -280,7 +297,8 @@ fn answer<Q: Port, P: PatternMaker, G: Gate>(
     requires { (held : List Hold) × Q.meaning.holds port.old held }
     // The maker refused just the pattern that the reply blames for its size, if it blames one.
     ensures { (more : List (List ℕ)) × RefusesOnly P.makes patterns.old patterns.new more
-        × (item : Item) × AsksAt moment line.now more item × HasAnsweredOne Q.meaning port.old item result port.new }
+        × (item : Item) × AsksAt moment line.now more item
+        × HasAnsweredOne Q.meaning port.old item result port.new }
 {
     match read_request(alloc, line, moment, patterns) {
         Ok(request) => answer_request(alloc, port, request, CLIENT, gate),
@@ -295,9 +313,11 @@ pub(crate) fn write<K: Sink>(
     sink: &mut K,
     reply: &Reply,
 ) -> Option<Ending>
-    ensures given { HasGiven (K.taken sink.old) (K.taken sink.new) tally.old tally.new reply.now result }
+    ensures given { HasGiven (K.taken sink.old)
+        (K.taken sink.new) tally.old tally.new reply.now result }
     ensures sink_counted { K.faults sink.old ≤ K.faults sink.new }
-    ensures write_fault { IfSome result (λ ending. ending ≡ WriteFault → Rose (K.faults sink.old) (K.faults sink.new)) }
+    ensures write_fault { IfSome result (λ ending. ending ≡ WriteFault
+        → Rose (K.faults sink.old) (K.faults sink.new)) }
     ensures endings { IfSome result (λ ending. (ending ≡ WriteFault) ⊎ (ending ≡ Starved)) }
 {
     let text = match write_reply(alloc, reply) {

@@ -84,11 +84,13 @@ pub fn run_alone<
         × (result.status ≡ status_of o.ending) × Recovers D.Device.own disk result.disk o }
     // Nothing is done for words at which `clap` finds a fault.
     ensures nothing_done { fault_of words_app (map string_bytes words.now) ≢ []
-        → (source.new ≡ source.old) × (sink.new ≡ sink.old) × (result.disk ≡ disk) × (clock.new ≡ clock.old)
+        → (source.new ≡ source.old) × (sink.new ≡ sink.old) × (result.disk ≡ disk)
+        × (clock.new ≡ clock.old)
         × (patterns.new ≡ patterns.old) }
     // Bytes that break, and so aren't opened, are left alone unless a call of the disk failed as they were read: at
     // most a vacant slot of the list is cut to its first byte.
-    ensures left { IsTrue (D.tells disk) → (file at : ℕ) → StoreBreaks (D.held disk) file at → result.status ≢ 4
+    ensures left { IsTrue (D.tells disk) → (file at : ℕ) → StoreBreaks (D.held disk) file at
+        → result.status ≢ 4
         → LeavesAlone D.Device.own disk result.disk }
     // Where the disk failed as the store was opened, or its bytes broke, nothing was taken of the source.
     ensures unread { (result.status ≡ 4) ⊎ (result.status ≡ 5) → source.new ≡ source.old }
@@ -141,11 +143,13 @@ pub fn run<
         × (result.status ≡ status_of o.ending) × Recovers D.Device.own disk result.disk o }
     // Nothing is done for words at which `clap` finds a fault.
     ensures nothing_done { fault_of words_app (map string_bytes words.now) ≢ []
-        → (source.new ≡ source.old) × (sink.new ≡ sink.old) × (result.disk ≡ disk) × (clock.new ≡ clock.old)
+        → (source.new ≡ source.old) × (sink.new ≡ sink.old) × (result.disk ≡ disk)
+        × (clock.new ≡ clock.old)
         × (patterns.new ≡ patterns.old) }
     // Bytes that break, and so aren't opened, are left alone unless a call of the disk failed as they were read: at
     // most a vacant slot of the list is cut to its first byte.
-    ensures left { IsTrue (D.tells disk) → (file at : ℕ) → StoreBreaks (D.held disk) file at → result.status ≢ 4
+    ensures left { IsTrue (D.tells disk) → (file at : ℕ) → StoreBreaks (D.held disk) file at
+        → result.status ≢ 4
         → LeavesAlone D.Device.own disk result.disk }
     // Where the disk failed as the store was opened, or its bytes broke, nothing was taken of the source.
     ensures unread { (result.status ≡ 4) ⊎ (result.status ≡ 5) → source.new ≡ source.old }
