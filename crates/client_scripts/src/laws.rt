@@ -10,8 +10,6 @@ use store_state::Port;
 
 /// A script that was answered over a port made just the calls by which its items are answered so, in order.
 pub fn a_script_makes_just_its_calls<P: Port>(old: &P, new: &P)
-    ensures { (items : List Item) (answered : Answered)
-        → HasAnswered P.meaning old.now items answered new.now
-        → (calls : List Call) × AreMade P.meaning old.now calls new.now
-        × IsScriptAnswered items answered calls }
+    ensures { (items : List Item) (answered : Answered) → HasAnswered P.meaning old.now items answered new.now
+        → (calls : List Call) × AreMade P.meaning old.now calls new.now × IsScriptAnswered items answered calls }
 {}
