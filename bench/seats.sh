@@ -1,7 +1,7 @@
 #!/usr/bin/env bash
 # What seats cost: microseconds a call of `held`, a push of an empty batch and a page read, of a store in memory, by its core and by 1, 2, 4
 # and 8 seats on as many threads, by a program of this folder (seats/program.txt) that is proved and built first, with the crates that it
-# stands on; and the processor time of eight large pushes alone, and beside eight threads that ask a few times, perhaps before the first push.
+# stands on; and the processor time of eight large pushes beside eight threads that ask, and of both apart: those that wait sleep if the two are alike.
 # `seats.sh ROUNDS` takes the least of another number of runs.
 set -e
 here=$(cd "$(dirname "$0")" && pwd)

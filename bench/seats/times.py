@@ -9,6 +9,8 @@ import time
 # A disk in memory keeps what each call made of it, so many pushes take longer each.
 CALLS = {"h": ("held", 200_000), "p": ("a push", 4_000), "r": ("a page read", 100_000)}
 THREADS = [1, 2, 4, 8]
+PUSHES = 8  # of the ninth thread, as the program has it
+ASKS = [1_000, 20_000, 100_000]
 
 
 def run(program, letter, threads, calls):
@@ -44,10 +46,16 @@ def main():
         for threads in THREADS:
             wall, used = each(program, rounds, letter, threads, calls)
             print(f"  {threads} seats: {wall:.3f} (processor {used:.3f}), the turn adds {wall - core:.3f} (processor {used - spent:.3f})")
-    # Nine threads: one makes eight pushes of 16,384 spans, and eight ask a few times, which may be before the first push.
-    alone, spent = least(program, rounds, "b", 0, 8)
-    wall, used = least(program, rounds, "h", 9, 8)
-    print(f"eight large pushes: {alone:.3f} s (processor {spent:.3f} s); beside eight threads that ask {wall:.3f} s (processor {used:.3f} s)")
+    # Nine threads: one makes eight pushes of 16,384 spans, and eight ask meanwhile. A push keeps the turn for long, and all eight wait for it.
+    # If what waits sleeps, both together take the processor time of the two apart.
+    alone, spent = least(program, rounds, "b", 0, PUSHES)
+    print(f"eight large pushes: {alone:.3f} s (processor {spent:.3f} s)")
+    for calls in ASKS:
+        asking, used = least(program, rounds, "h", 8, calls)
+        wall, both = least(program, rounds, "h", 9, calls)
+        apart = spent + used
+        print(f"  beside eight threads that ask {calls} times each ({asking:.3f} s, processor {used:.3f} s): {wall:.3f} s, processor {both:.3f} s, "
+              f"{both - apart:+.3f} s to both apart")
 
 
 main()
