@@ -9,10 +9,6 @@ use Rattle.block_build.specs.declared.building.BuiltBlock.{BuiltBlock}
 use Rattle.compactor.specs.Rounds.{IsJoined}
 use Rattle.compactor.specs.Phases.{relabelled}
 
--- the rows of all parts, where the parts are known by another name
-pub all_rows : (given parts : List (List Row)) (rows : List Row) → given ≡ parts → rows ≡ flat_map (λ (rows : List Row). rows) given → rows ≡ flat_map (λ (rows : List Row). rows) parts
-all_rows given parts rows same is = is ∙ ap (λ (ps : List (List Row)). flat_map (λ (rows : List Row). rows) ps) same
-
 joined_with : (file level : ℕ) (parts : List (List Row)) (rows : List Row) (built : BuiltBlock) → rows ≡ flat_map (λ (rows : List Row). rows) parts → IsBlockOf rows built
     → IsJoined file level parts built.bytes (relabelled file level built.info)
 joined_with file level parts rows built all is = record {

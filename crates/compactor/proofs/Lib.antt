@@ -4,4 +4,5 @@ pub mod ReadLaws
 mod BuildLaws
 pub mod WriteLaws
 mod RoundLaws
-mod TraceByTrace
+mod ByTrace
+mod JoinLaws
