@@ -1,5 +1,5 @@
 -- The stripes of a block are placed behind its header.
-use Rattle.std.proofs.Common.{◌≡◌, ℕ, zero, suc, ◌+◌, ◌-◌, ◌*◌, ◌<◌, ◌≤◌, ◌^◌, Bool, true, false, eqb, List, [], ◌∷◌, ◌++◌, length, take, drop, get_or, refl, sym, ap, subst, ◌∙◌, arith, append_assoc}
+use Rattle.std.proofs.Common.{◌≡◌, ◌⊎◌, ℕ, zero, suc, ◌+◌, ◌-◌, ◌*◌, ◌<◌, ◌≤◌, ◌^◌, Bool, true, false, eqb, List, [], ◌∷◌, ◌++◌, length, take, drop, get_or, refl, sym, ap, subst, ◌∙◌, arith, append_assoc}
 use Rattle.std.proofs.lemmas.Bool.{eq-eqb, eqb-true}
 use Rattle.std.proofs.lemmas.List.{append-nil, drop_all, drop_more, length-drop}
 use Rattle.span_types.specs.declared.ids.TraceId.{TraceId}
@@ -11,7 +11,7 @@ use Rattle.block_rows.specs.declared.tail.Tail.{Tail}
 use Rattle.block_rows.specs.Tails.{IsTailOf}
 use Rattle.block_format.specs.declared.header.Header.{Header}
 use Rattle.block_format.specs.Blocks.{BlockHasHeader, BlockHasInfo, StripeHasEntry, StripesHaveEntries, form_of_rows, ids_of, info_of}
-use Rattle.block_format.specs.Headers.{AreFromPage, HasRows, HeaderHolds, IsAtPage}
+use Rattle.block_format.specs.Headers.{AreFromPage, CanBeHeader, HasRows, HeaderHolds, IsAtPage, header_pages}
 use Rattle.block_stripes.specs.StripeReadings.{ascend}
 use Rattle.block_build.specs.Builders.{HasStripes}
 use Rattle.block_build.specs.Places.{at_page, placed}
@@ -89,11 +89,24 @@ whole_entries form stripes body rows has =
     (subst (λ (l : List ℕ). StripesHaveEntries form (stripes ++ []) l rows) (append-nil body)
     (subst (λ (l : List Row). StripesHaveEntries form (stripes ++ []) (body ++ []) l) (append-nil rows) (has [] [] [] (refl, refl))))
 
-pub closes : (page : ℕ) (stripes : List StripeInfo) (body whole front : List ℕ) (rows : List Row) (ids : List TraceId) (tail : Tail) (header : Header) (info : InfoParts)
+pub can_close : (header : Header) (stripes : List StripeInfo) (count : ℕ) → (header.form ≡ 1) ⊎ (header.form ≡ 2) → 1 ≤ count → count ≤ 4096 → count ≡ length stripes → header.pages ≡ header_pages count
+    → header.stripes ≡ placed header.pages stripes → AreFromPage header.pages header.stripes → CanBeHeader header
+can_close header stripes count form some few count_is pages made from =
+    let size : length header.stripes ≡ count = ap length made ∙ length_placed header.pages stripes ∙ sym count_is in
+    record {
+      form = form;
+      some = omega (arith, some, size);
+      few = omega (arith, few, size);
+      pages = pages ∙ ap header_pages (sym size);
+      stripes = from;
+    }
+
+pub closes : (page : ℕ) (stripes : List StripeInfo) (body whole front : List ℕ) (rows : List Row) (ids : List TraceId) (tail : Tail) (header : Header) (info : InfoParts) (count : ℕ)
     → HasStripes header.form stripes body rows → ids ≡ ids_of rows → header.form ≡ form_of_rows rows → ascend rows ≡ true → IsTailOf ids tail → header.stripes ≡ placed page stripes
-    → header.index_pages ≡ tail.index_pages → header.bloom_pages ≡ tail.bloom_pages → HeaderHolds front header → whole ≡ ((front ++ body) ++ tail.index) ++ tail.bloom → info ≡ info_of 0 0 header (length rows)
+    → header.index_pages ≡ tail.index_pages → header.bloom_pages ≡ tail.bloom_pages → HeaderHolds front header → whole ≡ ((front ++ body) ++ tail.index) ++ tail.bloom → info ≡ info_of 0 0 header count → count ≡ length rows
     → BlockHasInfo info whole rows
-closes page stripes body whole front rows ids tail header info has ids_are form_is order tail_is made index bloom holds whole_is info_is =
+closes page stripes body whole front rows ids tail header info count has ids_are form_is order tail_is made index bloom holds whole_is counted count_is =
+    let info_is : info ≡ info_of 0 0 header (length rows) = counted ∙ ap (info_of 0 0 header) count_is in
     let told : IsTailOf (ids_of rows) tail = subst (λ (l : List TraceId). IsTailOf l tail) ids_are tail_is in
     let entries = placed_entries header.form page stripes body rows (whole_entries header.form stripes body rows has) in
     let parts : BlockHasHeader header whole rows = record {

@@ -39,10 +39,7 @@ pub fn close(
         → IfOk result (λ found. IfSome found (λ built. BlockHasInfo built.info built.bytes rows)) }
 {
     let count = stripes.len();
-    if !(1 <= count && count <= MOST_STRIPES)
-        || ids.len() > MOST_ROWS
-        || !(form == 1 || form == 2)
-    {
+    if !is_possible(form, count, ids.len()) {
         return Ok(None);
     }
     let pages = header_pages(count);

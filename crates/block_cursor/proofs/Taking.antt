@@ -1,5 +1,5 @@
 -- Rows are taken one after another, and read stripe by stripe.
-use Rattle.std.proofs.Common.{◌≡◌, ℕ, zero, suc, ◌+◌, ◌*◌, ◌<◌, ◌≤◌, Bool, true, false, ◌&&◌, List, [], ◌∷◌, ◌++◌, length, take, drop, Option, Some, None, refl, sym, ap, subst, ◌∙◌, arith}
+use Rattle.std.proofs.Common.{◌≡◌, ℕ, zero, suc, ◌+◌, ◌*◌, ◌<◌, ◌≤◌, Bool, true, false, ◌&&◌, List, [], ◌∷◌, ◌++◌, length, take, drop, get_or, Option, Some, None, refl, sym, ap, subst, ◌∙◌, arith}
 use Rattle.std.specs.List.{AllByRecursion}
 use Rattle.std.specs.Option.{option_to_list}
 use Rattle.std.specs.Ordering.{is_lt, ordering_reverse, ordering_then}
@@ -72,6 +72,11 @@ next_trace rows later row left is =
 pub no_trace : (rows later : List Row) → IsLeft rows later → rows ≡ [] → rows ++ later ≡ []
 no_trace rows later left none = ap (λ (l : List Row). l ++ later) none ∙ left.none none
 
+-- the front of a list that has one
+pub one_front : (rows : List Row) (row : Row) → 0 < length rows → row ≡ get_or rows 0 row → rows ≡ row ∷ drop 1 rows
+one_front [] row some is = absurd (omega (arith, some))
+one_front (x ∷ rows) row some is = ap (λ (r : Row). r ∷ rows) (sym is)
+
 -- ---- taking it
 
 -- what is taken from the front of a list
@@ -105,7 +110,7 @@ taken row rows later new left is rest one = by row (front row rows new is rest)
           takes = same;
         }
 
-no_items : (rows : List Row) → length rows ≡ 0 → rows ≡ []
+pub no_items : (rows : List Row) → length rows ≡ 0 → rows ≡ []
 no_items [] e = refl
 no_items (x ∷ xs) e = absurd (omega (arith, e))
 

@@ -1,6 +1,6 @@
 //! The rows of a block that is held as its bytes, one after another.
 
-ghost use Rattle.std.specs.Prelude.{◌≡◌, [], IfOk, IfSome, None};
+ghost use Rattle.std.specs.Prelude.{◌≡◌, ◌<◌, ◌≤◌, [], IfOk, IfSome, None, false, true};
 ghost use Rattle.block_cursor.specs.Wholes.{BeginsWith, TakesFirst};
 
 use crate::block::ReadBlock;
@@ -67,7 +67,7 @@ impl<'a> RowsLeft<'a> {
         ensures { IfOk result (λ row. TakesFirst row self.old self.new) }
     {
         self.block.are_its_rows();
-        if self.rows.len() != 1 || self.number >= MOST_STRIPES {
+        if !wants_more(self.rows.len(), self.number) {
             return Ok(self.rows.pop_front());
         }
         let more = self.block.stripe(self.alloc, self.number)?;
@@ -75,4 +75,14 @@ impl<'a> RowsLeft<'a> {
         self.number += 1;
         Ok(rows.pop_front())
     }
+}
+
+/// Whether the next stripe is to be read before a row is taken: where it is the last one of so many that are read, and
+/// the block can have another stripe.
+fn wants_more(rows: usize, number: usize) -> bool
+    ensures last { result ≡ true → rows ≡ 1 }
+    ensures within { result ≡ true → number < 4096 }
+    ensures other { result ≡ false → rows ≡ 1 → 4096 ≤ number }
+{
+    rows == 1 && number < MOST_STRIPES
 }

@@ -4,10 +4,9 @@ use Rattle.std.proofs.lemmas.List.{length-map}
 use Rattle.span_types.specs.declared.ids.TraceId.{TraceId}
 use Rattle.span_types.specs.declared.spans.Row.{Row}
 use Rattle.block_info.specs.declared.info.StripeInfo.{StripeInfo}
-use Rattle.block_format.specs.Blocks.{info_of}
-use Rattle.block_format.specs.Headers.{AreFromPage, header_pages}
+use Rattle.block_format.specs.Headers.{AreFromPage}
 use Rattle.block_build.specs.Places.{placed}
-use Rattle.block_build.proofs.PlaceLaws.{closes, length_placed}
+use Rattle.block_build.proofs.PlaceLaws.{can_close, closes}
 use Rattle.block_build.proofs.placing.close.Goals as goal
 
 pub header_pages-pages-requires : goal.header_pages-pages-requires
@@ -22,15 +21,21 @@ write_header-requires c =
     let found = c.in-Some.stripes.items in
     let made : found ≡ placed pages c.as_slice.result.now = subst (λ (o : Option (Vec StripeInfo Global)). IfSome o (λ all. all.items ≡ placed pages c.as_slice.result.now)) c.in-Some.is c.in_ok-stripes.ensures.placed in
     let from : AreFromPage pages found = subst (λ (o : Option (Vec StripeInfo Global)). IfSome o (λ all. AreFromPage pages all.items)) c.in-Some.is c.in_ok-stripes.ensures.from in
-    let size : length c.of.result ≡ length c.args.stripes.items = ap length (c.of.ensures ∙ made) ∙ length_placed pages c.as_slice.result.now ∙ ap length c.as_slice.ensures.value in
-    let count : c.len-count.result ≡ length c.of.result = omega (arith, c.len-count.ensures, c.args.stripes.ok, size) in
-    record {
-      form = c.is_possible.ensures.form c.if-not-is_possible.false;
-      some = (let some = c.is_possible.ensures.some c.if-not-is_possible.false in omega (arith, some, count));
-      few = (let few = c.is_possible.ensures.few c.if-not-is_possible.false in omega (arith, few, count));
-      pages = c.header_pages-pages.ensures.pages ∙ ap header_pages count;
-      stripes = subst (AreFromPage pages) (sym c.of.ensures) from;
-    }
+    let ok = c.if-not-is_possible.false in
+    let count : c.len-count.result ≡ length c.args.stripes.items = omega (arith, c.len-count.ensures, c.args.stripes.ok) in
+    can_close _ c.args.stripes.items c.len-count.result (c.is_possible.ensures.form ok) (c.is_possible.ensures.some ok) (c.is_possible.ensures.few ok) count
+    c.header_pages-pages.ensures.pages (c.of.ensures ∙ made ∙ ap (placed pages) c.as_slice.ensures.value) (subst (AreFromPage pages) (sym c.of.ensures) from)
+
+pub info_of-info-requires : goal.info_of-info-requires
+info_of-info-requires c =
+    let pages = c.header_pages-pages.result in
+    let found = c.in-Some.stripes.items in
+    let made : found ≡ placed pages c.as_slice.result.now = subst (λ (o : Option (Vec StripeInfo Global)). IfSome o (λ all. all.items ≡ placed pages c.as_slice.result.now)) c.in-Some.is c.in_ok-stripes.ensures.placed in
+    let from : AreFromPage pages found = subst (λ (o : Option (Vec StripeInfo Global)). IfSome o (λ all. AreFromPage pages all.items)) c.in-Some.is c.in_ok-stripes.ensures.from in
+    let ok = c.if-not-is_possible.false in
+    let count : c.len-count.result ≡ length c.args.stripes.items = omega (arith, c.len-count.ensures, c.args.stripes.ok) in
+    can_close _ c.args.stripes.items c.len-count.result (c.is_possible.ensures.form ok) (c.is_possible.ensures.some ok) (c.is_possible.ensures.few ok) count
+    c.header_pages-pages.ensures.pages (c.of.ensures ∙ made ∙ ap (placed pages) c.as_slice.ensures.value) (subst (AreFromPage pages) (sym c.of.ensures) from)
 
 pub returns : goal.returns
 returns c = λ rows has ids_are form_is order.
@@ -39,9 +44,9 @@ returns c = λ rows has ids_are form_is order.
     let body = c.args.body.items in
     let tail = c.in_ok-tail.tail in
     let made : c.in-Some.stripes.items ≡ placed pages c.as_slice.result.now = subst (λ (o : Option (Vec StripeInfo Global)). IfSome o (λ all. all.items ≡ placed pages c.as_slice.result.now)) c.in-Some.is c.in_ok-stripes.ensures.placed in
-    closes pages c.args.stripes.items body c.of-2.result front rows c.args.ids.now tail _ c.info_of-info.result has ids_are form_is order c.in_ok-tail.ensures
+    closes pages c.args.stripes.items body c.of-2.result front rows c.args.ids.now tail _ c.info_of-info.result c.len-2.result has ids_are form_is order c.in_ok-tail.ensures
     (c.of.ensures ∙ made ∙ ap (placed pages) c.as_slice.ensures.value) refl refl c.in_ok-front.ensures
     (c.of-2.ensures ∙ c.in_ok-extend_from_slice-2.ensures.items
     ∙ ap (λ (l : List ℕ). l ++ c.as_slice-5.result.now) (c.in_ok-extend_from_slice.ensures.items ∙ ap (λ (l : List ℕ). l ++ c.as_slice-4.result.now) (c.in_ok-bytes.ensures ∙ ap (λ (l : List ℕ). l ++ body) c.as_slice-3.ensures))
     ∙ ap (λ (l : List ℕ). ((front ++ body) ++ l) ++ c.as_slice-5.result.now) c.as_slice-4.ensures ∙ ap (λ (l : List ℕ). ((front ++ body) ++ tail.index) ++ l) c.as_slice-5.ensures)
-    (c.info_of-info.ensures ∙ ap (λ (n : ℕ). info_of 0 0 _ n) (c.len-2.ensures ∙ ap length ids_are ∙ length-map rows (λ (row : Row). row.span.trace)))
+    c.info_of-info.ensures (c.len-2.ensures ∙ ap length ids_are ∙ length-map rows (λ (row : Row). row.span.trace))

@@ -34,3 +34,10 @@ returns-clause-holds c =
     let found = c.in_ok-info.ensures.described in
     let whole = is_whole c.args.rows bytes info found.0 (subst (λ (b : List ℕ). BlockHasInfo info b found.0) c.as_slice.ensures found.1) c.in_ok-info.ensures.named.2 in
     record { header = whole.has.header; parts = whole.has.parts }
+
+pub invariant_of-result : goal.invariant_of-result
+invariant_of-result c =
+    let info = c.in_ok-info.info in
+    let bytes = c.args.bytes in
+    let found = c.in_ok-info.ensures.described in
+    (is_whole c.args.rows bytes info found.0 (subst (λ (b : List ℕ). BlockHasInfo info b found.0) c.as_slice.ensures found.1) c.in_ok-info.ensures.named.2).has
