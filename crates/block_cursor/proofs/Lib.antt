@@ -1,2 +1,2 @@
-mod Checked
+mod CheckedBytes
 mod Taking

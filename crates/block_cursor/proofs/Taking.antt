@@ -77,6 +77,10 @@ pub one_front : (rows : List Row) (row : Row) → 0 < length rows → row ≡ ge
 one_front [] row some is = absurd (omega (arith, some))
 one_front (x ∷ rows) row some is = ap (λ (r : Row). r ∷ rows) (sym is)
 
+pub no_front : (rows : List Row) → (0 < length rows → false ≡ true) → rows ≡ []
+no_front [] some = refl
+no_front (x ∷ rows) some = absurd (let bad : false ≡ true = some (omega arith) in cc)
+
 -- ---- taking it
 
 -- what is taken from the front of a list
@@ -110,7 +114,7 @@ taken row rows later new left is rest one = by row (front row rows new is rest)
           takes = same;
         }
 
-pub no_items : (rows : List Row) → length rows ≡ 0 → rows ≡ []
+no_items : (rows : List Row) → length rows ≡ 0 → rows ≡ []
 no_items [] e = refl
 no_items (x ∷ xs) e = absurd (omega (arith, e))
 

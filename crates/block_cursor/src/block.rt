@@ -78,7 +78,7 @@ impl ReadBlock {
         ensures order { ascend self.now ≡ true }
         ensures few { length self.now ≤ 1048576 }
     {
-        let _ = self.info.form;
+        let _ = &self.info;
     }
 }
 

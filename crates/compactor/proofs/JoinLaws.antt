@@ -18,7 +18,7 @@ use Rattle.block_build.specs.declared.builder.Builder.{Builder}
 use Rattle.block_build.specs.declared.building.BuiltBlock.{BuiltBlock}
 use Rattle.block_build.specs.Builders.{Takes}
 use Rattle.block_cursor.specs.Wholes.{AreFrom, BeginsWith}
-use Rattle.compactor.specs.Joining.{IsJoining, IsLeast, IsTaking, rows_of_others}
+use Rattle.compactor.specs.Joining.{IsJoining, IsLeast, IsMoved, IsTaking, rows_of_others}
 use Rattle.block_build.proofs.TraceByTrace.{Apart, beside, is_below, is_same, map_all, through, trace_cmp_total}
 use Rattle.compactor.proofs.ByTrace.{alike_by_trace}
 
@@ -190,6 +190,9 @@ pub none_left : (t : TraceId) (rows : List Row) → rows ≡ [] → (rows_of_tra
 none_left t [] e = (refl, refl)
 none_left t (x ∷ xs) e = cc
 
+pub taking_begins : (t : TraceId) (rows group : List Row) → group ≡ [] → AreFrom t rows → IsTaking t rows rows group
+taking_begins t rows group none from = record { from = from; taken = ap (λ (l : List Row). l ++ rows_of_trace t rows) none; others = refl }
+
 pub taking_more : (t : TraceId) (rows left rest group new : List Row) (row : Row) → left ≡ row ∷ rest → BeginsWith t left → new ≡ group ++ row ∷ [] → IsTaking t rows left group → IsTaking t rows rest new
 taking_more t rows left rest group new row is begins more so_far =
     let here : row.span.trace ≡ t = (subst (BeginsWith t) is begins).0 in
@@ -199,6 +202,16 @@ taking_more t rows left rest group new row is begins more so_far =
           ∙ ap (λ (l : List Row). group ++ rows_of_trace t l) (sym is) ∙ so_far.taken;
       others = sym (others_next t row rest here) ∙ ap (rows_of_others t) (sym is) ∙ so_far.others;
     }
+
+pub taking_next : (t : TraceId) (rows left rest group new : List Row) → BeginsWith t left → IsMoved left rest group new → IsTaking t rows left group → IsTaking t rows rest new
+taking_next t rows [] rest group new begins moved so_far = absurd begins
+taking_next t rows (x ∷ xs) rest group new begins moved so_far =
+    let m = moved x xs refl in
+    taking_more t rows (x ∷ xs) rest group new x (ap (λ (l : List Row). x ∷ l) (sym m.0)) begins m.1 so_far
+
+pub fewer_left : (t : TraceId) (left rest group new : List Row) → BeginsWith t left → IsMoved left rest group new → length rest < length left
+fewer_left t [] rest group new begins moved = absurd begins
+fewer_left t (x ∷ xs) rest group new begins moved = (let size = ap length (moved x xs refl).0 in omega (arith, size))
 
 -- ---- several parts
 
@@ -330,6 +343,34 @@ gathered t parts lefts group i high size so_far =
       group = so_far.group ∙ ap (rows_of_trace t) all;
       left = sym (parts_all lefts i high) ∙ so_far.done ∙ ap (rows_of_others t) all;
     }
+
+-- ---- adding rows
+
+-- all rows but these are added to the builder
+pub record IsAdding (rows : List Row) (old new : Builder) (rest : List Row) : Type 0 where
+  pub added : List Row
+  pub all : added ++ rest ≡ rows
+  pub takes : (before : List Row) → Takes old before → Takes new (before ++ added)
+
+pub adding_begins : (rows : List Row) (builder : Builder) (rest : List Row) → rest ≡ rows → IsAdding rows builder builder rest
+adding_begins rows builder rest all = record { added = []; all = all; takes = λ before took. subst (Takes builder) (sym (append-nil before)) took }
+
+pub adding_more : (rows : List Row) (old builder new : Builder) (rest later : List Row) (row : Row) → rest ≡ row ∷ later → ((rows : List Row) → Takes builder rows → Takes new (rows ++ row ∷ []))
+    → IsAdding rows old builder rest → IsAdding rows old new later
+adding_more rows old builder new rest later row is adds so_far = record {
+  added = so_far.added ++ row ∷ [];
+  all = append_assoc so_far.added (row ∷ []) later ∙ ap (λ (l : List Row). so_far.added ++ l) (sym is) ∙ so_far.all;
+  takes = λ before took. subst (Takes new) (append_assoc before so_far.added (row ∷ [])) (adds (before ++ so_far.added) (so_far.takes before took));
+}
+
+no_items : (rows : List Row) → length rows ≡ 0 → rows ≡ []
+no_items [] none = refl
+no_items (row ∷ rows) none = absurd (omega (arith, none))
+
+pub adding_ends : (rows : List Row) (old new : Builder) (rest : List Row) → length rest ≡ 0 → IsAdding rows old new rest → (before : List Row) → Takes old before → Takes new (before ++ rows)
+adding_ends rows old new rest none so_far before took =
+    let all : so_far.added ≡ rows = sym (append-nil so_far.added) ∙ ap (λ (l : List Row). so_far.added ++ l) (sym (no_items rest none)) ∙ so_far.all in
+    subst (λ (l : List Row). Takes new (before ++ l)) all (so_far.takes before took)
 
 -- ---- the whole
 

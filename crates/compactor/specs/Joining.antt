@@ -1,5 +1,5 @@
 -- Private mechanism: rows gone over trace by trace. No public clause cites it.
-use Rattle.std.specs.Prelude.{◌≡◌, ◌<◌, not, List, [], ◌++◌, filter, length, Option, None, Some}
+use Rattle.std.specs.Prelude.{◌≡◌, ◌<◌, not, List, [], ◌∷◌, ◌++◌, filter, length, Option, None, Some}
 use Rattle.span_types.specs.First.{IsFirstOf}
 use Rattle.span_types.specs.declared.ids.TraceId.{TraceId}
 use Rattle.span_types.specs.declared.spans.Row.{Row}
@@ -16,6 +16,10 @@ rows_of_others trace rows = filter (λ row. not (is_of_trace trace row)) rows
 abbrev pub IsLeast : Option TraceId → List Row → Type 0
 IsLeast None rows = rows ≡ []
 IsLeast (Some trace) rows = AreFrom trace rows × (length (rows_of_others trace rows) < length rows)
+
+-- The next row, if there is one, is moved behind a group.
+abbrev pub IsMoved : List Row → List Row → List Row → List Row → Type 0
+IsMoved left rest group new = (row : Row) (rows : List Row) → left ≡ row ∷ rows → (rest ≡ rows) × (new ≡ group ++ row ∷ [])
 
 -- Rows of which those of the least trace are taken.
 pub record IsTaking (trace : TraceId) (rows left group : List Row) : Type 0 where

@@ -8,12 +8,12 @@ ghost use Rattle.rows_by_trace.specs.Traces.{rows_of_trace};
 ghost use Rattle.block_build.specs.Built.{IsBlockOf};
 ghost use Rattle.block_build.specs.Builders.{Takes};
 ghost use Rattle.block_cursor.specs.Wholes.{AreFrom, BeginsWith};
-ghost use Rattle.compactor.specs.Joining.{IsLeast, rows_of_others};
+ghost use Rattle.compactor.specs.Joining.{IsLeast, IsMoved, rows_of_others};
 
 use crate::merge::{RowLists, merge_rows};
 use block_build::{Builder, BuiltBlock};
 use block_cursor::{ReadBlock, RowsLeft};
-use span_types::{Memory, Rows, Seq, TraceId};
+use span_types::{Memory, Row, Rows, Seq, TraceId};
 use std::alloc::Global;
 
 /// The block of the first occurrences of the rows of all parts, where they want this form. `None` says nothing.
@@ -69,17 +69,13 @@ fn first_trace(left: &RowsLeft<'_>) -> Option<TraceId>
 fn lesser(a: Option<TraceId>, b: Option<TraceId>) -> Option<TraceId>
     ensures { (xs ys : List Row) → IsLeast a xs → IsLeast b ys → IsLeast result (xs ++ ys) }
 {
-    match (a, b) {
-        (Some(x), Some(y)) => {
-            if y.cmp(&x).is_lt() {
-                Some(y)
-            } else {
-                Some(x)
-            }
-        }
-        (Some(x), None) => Some(x),
-        (None, b) => b,
-    }
+    let Some(x) = a else {
+        return b;
+    };
+    let Some(y) = b else {
+        return Some(x);
+    };
+    if y.cmp(&x).is_lt() { Some(y) } else { Some(x) }
 }
 
 // Takes the rows of the least trace, as a list of each part.
@@ -110,11 +106,20 @@ fn take_rows(alloc: Global, left: &mut RowsLeft<'_>, trace: TraceId) -> Result<R
 {
     let mut group = Vec::new(alloc);
     while is_next(left, trace) {
-        if let Some(row) = left.next()? {
-            group.push(row)?;
-        }
+        take_row(left, &mut group)?;
     }
     Ok(Rows::of(group))
+}
+
+// Takes the next row, if there is one.
+fn take_row(left: &mut RowsLeft<'_>, group: &mut Vec<Row>) -> Result<(), Memory>
+    ensures { OnOk result (IsMoved left.old left.new group.old.items group.new.items) }
+{
+    let Some(row) = left.next()? else {
+        return Ok(());
+    };
+    group.push(row)?;
+    Ok(())
 }
 
 // Whether the next row is of this trace.

@@ -4,7 +4,7 @@ use Rattle.block_format.specs.Blocks.{BlockHasInfo}
 use Rattle.span_fields.specs.Breaks.{Fails}
 use Rattle.block_read.specs.Answers.{made_of}
 use Rattle.block_read.specs.BlockReadings.{info_read, listed_at}
-use Rattle.block_cursor.proofs.Checked.{IsWhole, is_whole, no_rows}
+use Rattle.block_cursor.proofs.CheckedBytes.{IsWhole, is_whole, no_rows}
 use Rattle.block_cursor.proofs.block.checked.Goals as goal
 
 pub returns-in_err-info-clause-answers : goal.returns-in_err-info-clause-answers

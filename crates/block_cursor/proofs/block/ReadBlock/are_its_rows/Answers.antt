@@ -2,7 +2,7 @@ use Rattle.std.proofs.Common.{◌≡◌, ◌≤◌, List, length, subst, true}
 use Rattle.span_types.specs.declared.spans.Row.{Row}
 use Rattle.block_stripes.specs.StripeReadings.{ascend}
 use Rattle.block_cursor.specs.Wholes.{rows_in}
-use Rattle.block_cursor.proofs.Checked.{in_order, not_many}
+use Rattle.block_cursor.proofs.CheckedBytes.{in_order, not_many}
 use Rattle.block_cursor.proofs.block.ReadBlock.are_its_rows.Goals as goal
 
 pub returns-clause-order : goal.returns-clause-order

@@ -1,5 +1,5 @@
 -- The rows of a block whose bytes were checked.
-use Rattle.std.proofs.Common.{◌≡◌, ℕ, ◌*◌, ◌≤◌, true, List, [], length, take, drop, Some, Result, Ok, Err, refl, sym, ap, subst, ◌∙◌, arith}
+use Rattle.std.proofs.Common.{◌≡◌, ℕ, zero, suc, ◌*◌, ◌<◌, ◌≤◌, true, List, [], ◌∷◌, length, take, drop, get_or, Some, Result, Ok, Err, refl, sym, ap, subst, ◌∙◌, arith}
 use Rattle.std.specs.Prelude.{slice_get}
 use Rattle.std.proofs.lemmas.List.{drop_all}
 use Rattle.span_types.specs.declared.spans.Row.{Row}
@@ -9,8 +9,8 @@ use Rattle.span_fields.specs.Breaks.{Fails}
 use Rattle.block_info.specs.declared.info.StripeInfo.{StripeInfo}
 use Rattle.block_info.specs.InfoParts.{InfoParts}
 use Rattle.block_format.specs.Blocks.{BlockHasInfo}
-use Rattle.block_stripes.specs.StripeReadings.{ascend}
-use Rattle.block_stripes.specs.Stripes.{StripeHolds}
+use Rattle.block_stripes.specs.StripeReadings.{ascend, stripe_at}
+use Rattle.block_stripes.specs.Stripes.{StripeHolds, is_extended}
 use Rattle.block_read.specs.Answers.{made_of}
 use Rattle.block_read.specs.BlockReadings.{info_read, listed_at}
 use Rattle.block_read.specs.Files.{part_of}
@@ -53,6 +53,24 @@ pub stripe_there : (info : InfoParts) (bytes : List ℕ) (rows : List Row) (i : 
     → StripeHolds info.form (part_of entry.page entry.pages bytes) (take 256 (drop (256 * i) rows))
 stripe_there info bytes rows i entry has there =
     subst (StripeHolds info.form (part_of entry.page entry.pages bytes)) (stripe_share info bytes rows has i entry there).here (stripes_stand info bytes rows has i entry there).holds
+
+listed_there : (xs : List StripeInfo) (i : ℕ) (d : StripeInfo) → i < length xs → slice_get xs i ≡ Some (get_or xs i d)
+listed_there [] i d low = absurd (omega (arith, low))
+listed_there (x ∷ xs) zero d low = refl
+listed_there (x ∷ xs) (suc i) d low = listed_there xs i d (omega (arith, low))
+
+-- what is read of a stripe's pages
+pub stripe_read : (info : InfoParts) (bytes : List ℕ) (rows : List Row) (i : ℕ) (d : StripeInfo) (stripes : List StripeInfo) (form : ℕ) (whole part : List ℕ) (found : List Row) → BlockHasInfo info bytes rows
+    → stripes ≡ info.stripes → form ≡ info.form → whole ≡ bytes → i < length stripes → part ≡ part_of (get_or stripes i d).page (get_or stripes i d).pages whole
+    → ((form : ℕ) (bytes : List ℕ) (rows : List Row) → StripeHolds form bytes rows → stripe_at (is_extended form) bytes ≡ Ok rows) → stripe_at (is_extended form) part ≡ Ok found → found ≡ take 256 (drop (256 * i) rows)
+stripe_read info bytes rows i d stripes form whole part found has stripes_are form_is whole_is low part_is held read =
+    let listed : slice_get info.stripes i ≡ Some (get_or stripes i d) = ap (λ (l : List StripeInfo). slice_get l i) (sym stripes_are) ∙ listed_there stripes i d low in
+    let stands = stripe_there info bytes rows i (get_or stripes i d) has listed in
+    let there : part ≡ part_of (get_or stripes i d).page (get_or stripes i d).pages bytes = part_is ∙ ap (part_of (get_or stripes i d).page (get_or stripes i d).pages) whole_is in
+    let here : StripeHolds form part (take 256 (drop (256 * i) rows)) =
+    subst (λ (f : ℕ). StripeHolds f part (take 256 (drop (256 * i) rows))) (sym form_is) (subst (λ (b : List ℕ). StripeHolds info.form b (take 256 (drop (256 * i) rows))) (sym there) stands) in
+    let same : stripe_at (is_extended form) part ≡ Ok (take 256 (drop (256 * i) rows)) = held form part (take 256 (drop (256 * i) rows)) here in
+    cc
 
 pub none_there : (info : InfoParts) (bytes : List ℕ) (rows : List Row) (i : ℕ) → BlockHasInfo info bytes rows → length info.stripes ≤ i → take 256 (drop (256 * i) rows) ≡ []
 none_there info bytes rows i has high =
