@@ -79,11 +79,7 @@ fn lesser(a: Option<TraceId>, b: Option<TraceId>) -> Option<TraceId>
 }
 
 // Takes the rows of the least trace, as a list of each part.
-fn take_group(
-    alloc: Global,
-    lefts: &mut [RowsLeft<'_>],
-    trace: TraceId,
-) -> Result<RowLists, Memory>
+fn take_group(alloc: Global, lefts: &mut [RowsLeft<'_>], trace: TraceId) -> Result<RowLists, Memory>
     requires { AreFrom trace (flat_map (λ rows. rows) lefts.old) }
     ensures group { IfOk result (λ group. flat_map (λ rows. rows) group
         ≡ rows_of_trace trace (flat_map (λ rows. rows) lefts.old)) }

@@ -12,8 +12,8 @@ ghost use Rattle.compactor.specs.Tasks.Task.{Failing, Reading};
 ghost use Rattle.store_state.specs.declared.rounds.Refusal.TheVariants.{Memory};
 
 use crate::task::Phase;
-use block_format::a_block_has_rows;
 use block_cursor::{ReadBlock, checked};
+use block_format::a_block_has_rows;
 use block_info::BlockInfo;
 use span_fields::Break;
 use span_types::Bytes;

@@ -12,8 +12,8 @@ invariant_of-self c =
     let block = left.block.now in
     (taken c.pop_front.result left.rows.items (drop (256 * left.number) block) c.pop_front.new.self.items c.self.invariant c.pop_front.ensures.items c.pop_front.ensures.rest
     (λ (one : length left.rows.items ≡ 1).
-        let high = c.wants_more.ensures.other c.if-not-wants_more.true (omega (arith, one, c.len.ensures, left.rows.ok)) in
-        drop_all (256 * left.number) block (omega (arith, high, c.are_its_rows.ensures.few)))).left
+    let high = c.wants_more.ensures.other c.if-not-wants_more.true (omega (arith, one, c.len.ensures, left.rows.ok)) in
+    drop_all (256 * left.number) block (omega (arith, high, c.are_its_rows.ensures.few)))).left
 
 pub returns-then-not-wants_more : goal.returns-then-not-wants_more
 returns-then-not-wants_more c =
@@ -22,8 +22,8 @@ returns-then-not-wants_more c =
     subst (λ (rows : List Row). TakesFirst c.pop_front.result rows (c.pop_front.new.self.items ++ drop (256 * left.number) block)) c.self.view_is
     (taken c.pop_front.result left.rows.items (drop (256 * left.number) block) c.pop_front.new.self.items c.self.invariant c.pop_front.ensures.items c.pop_front.ensures.rest
     (λ (one : length left.rows.items ≡ 1).
-        let high = c.wants_more.ensures.other c.if-not-wants_more.true (omega (arith, one, c.len.ensures, left.rows.ok)) in
-        drop_all (256 * left.number) block (omega (arith, high, c.are_its_rows.ensures.few)))).takes
+    let high = c.wants_more.ensures.other c.if-not-wants_more.true (omega (arith, one, c.len.ensures, left.rows.ok)) in
+    drop_all (256 * left.number) block (omega (arith, high, c.are_its_rows.ensures.few)))).takes
 
 pub invariant_of-self-2 : goal.invariant_of-self-2
 invariant_of-self-2 c =
