@@ -1,7 +1,7 @@
 -- The stripes of a block are placed behind its header.
-use Rattle.std.proofs.Common.{◌≡◌, ◌⊎◌, ℕ, zero, suc, ◌+◌, ◌-◌, ◌*◌, ◌<◌, ◌≤◌, ◌^◌, Bool, true, false, eqb, List, [], ◌∷◌, ◌++◌, length, take, drop, get_or, refl, sym, ap, subst, ◌∙◌, arith, append_assoc}
+use Rattle.std.proofs.Common.{◌≡◌, ◌⊎◌, inl, inr, ℕ, zero, suc, ◌+◌, ◌-◌, ◌*◌, ◌<◌, ◌≤◌, ◌^◌, Bool, true, false, eqb, Option, None, Some, IsSome, List, [], ◌∷◌, ◌++◌, length, drop, get_or, refl, sym, ap, subst, ◌∙◌, arith, append_assoc}
 use Rattle.std.proofs.lemmas.Bool.{eq-eqb, eqb-true}
-use Rattle.std.proofs.lemmas.List.{append-nil, drop_all, drop_more, length-drop}
+use Rattle.std.proofs.lemmas.List.{append-nil, drop_all, drop_more, length-drop, length-take}
 use Rattle.span_types.specs.declared.ids.TraceId.{TraceId}
 use Rattle.span_types.specs.declared.spans.Row.{Row}
 use Rattle.block_info.specs.declared.info.StripeInfo.{StripeInfo}
@@ -10,10 +10,10 @@ use Rattle.block_index.specs.Index.{index_bytes}
 use Rattle.block_rows.specs.declared.tail.Tail.{Tail}
 use Rattle.block_rows.specs.Tails.{IsTailOf}
 use Rattle.block_format.specs.declared.header.Header.{Header}
-use Rattle.block_format.specs.Blocks.{BlockHasHeader, BlockHasInfo, StripeHasEntry, StripesHaveEntries, form_of_rows, ids_of, info_of}
+use Rattle.block_format.specs.Blocks.{BlockHasHeader, BlockHasInfo, StripesHaveEntries, form_of_rows, ids_of, info_of}
 use Rattle.block_format.specs.Headers.{AreFromPage, CanBeHeader, HasRows, HeaderHolds, IsAtPage, header_pages}
 use Rattle.block_stripes.specs.StripeReadings.{ascend}
-use Rattle.block_build.specs.Builders.{HasStripes}
+use Rattle.block_build.specs.Builders.{AreCounted, HasStripes}
 use Rattle.block_build.specs.Places.{at_page, placed}
 
 -- ---- the loop
@@ -128,3 +128,55 @@ closes page stripes body whole front rows ids tail header info count has ids_are
       parts = parts;
       info_is = info_is ∙ ap (λ (k : ℕ). info_of k 0 header (length rows)) file ∙ ap (λ (k : ℕ). info_of info.file k header (length rows)) level;
     }
+
+-- ---- there is one
+
+-- each of these stripes has as many rows as one of a block
+pub counted_at : (stripes : List StripeInfo) (i : ℕ) (d : StripeInfo) → i < length stripes → AreCounted stripes → HasRows (eqb (i + 1) (length stripes)) (get_or stripes i d).rows
+counted_at [] i d low counted = absurd (omega (arith, low))
+counted_at (stripe ∷ stripes) zero d low counted = subst (λ (t : Bool). HasRows t stripe.rows) same counted.0
+  where
+    same : eqb (length stripes) 0 ≡ eqb (0 + 1) (suc (length stripes))
+    same = same_test (eqb (length stripes) 0) (eqb (0 + 1) (suc (length stripes)))
+        (λ e. let none = eqb-true (length stripes) 0 e in eq-eqb (0 + 1) (suc (length stripes)) (omega (arith, none)))
+        (λ e. let one = eqb-true (0 + 1) (suc (length stripes)) e in eq-eqb (length stripes) 0 (omega (arith, one)))
+counted_at (stripe ∷ stripes) (suc i) d low counted = subst (λ (t : Bool). HasRows t (get_or stripes i d).rows) same (counted_at stripes i d (omega (arith, low)) counted.1)
+  where
+    same : eqb (i + 1) (length stripes) ≡ eqb (suc i + 1) (suc (length stripes))
+    same = same_test (eqb (i + 1) (length stripes)) (eqb (suc i + 1) (suc (length stripes)))
+        (λ e. let last = eqb-true (i + 1) (length stripes) e in eq-eqb (suc i + 1) (suc (length stripes)) (omega (arith, last)))
+        (λ e. let last = eqb-true (suc i + 1) (suc (length stripes)) e in eq-eqb (i + 1) (length stripes) (omega (arith, last)))
+
+rows_by : (last : Bool) (n rows : ℕ) → eqb n 0 ≡ last → HasRows last rows → (1 ≤ rows) × ((n ≡ 0) ⊎ (rows ≡ 256))
+rows_by true n rows e has = (has.0, inl (eqb-true n 0 e))
+rows_by false n rows e has = (omega (arith, has), inr has)
+
+counted_size : (form : ℕ) (stripes : List StripeInfo) (body : List ℕ) (rows : List Row) → AreCounted stripes → StripesHaveEntries form stripes body rows → 256 * length stripes < length rows + 256
+counted_size form [] body rows counted have = omega arith
+counted_size form (stripe ∷ stripes) body rows counted have =
+    let count = have.0.count in
+    let size = length-take stripe.rows rows in
+    let left = length-drop stripe.rows rows in
+    let rest = counted_size form stripes (drop (4096 * stripe.pages) body) (drop stripe.rows rows) counted.1 have.1 in
+    let own = rows_by (eqb (length stripes) 0) (length stripes) stripe.rows refl counted.0 in
+    let some = own.0 in
+    elim own.1 [
+      | inl none ↦ omega (arith, count, size, some, none)
+      | inr full ↦ omega (arith, count, size, left, rest, full)
+    ]
+
+some_stripes : (form : ℕ) (stripes : List StripeInfo) (body : List ℕ) (rows : List Row) → 1 ≤ length rows → StripesHaveEntries form stripes body rows → 1 ≤ length stripes
+some_stripes form [] body rows some have = absurd (let none = ap length have.1 in omega (arith, none, some))
+some_stripes form (stripe ∷ stripes) body rows some have = omega arith
+
+-- the stripes of 1 to 1,048,576 rows are 1 to 4,096
+pub their_stripes : (form : ℕ) (stripes : List StripeInfo) (body : List ℕ) (rows : List Row) → HasStripes form stripes body rows → AreCounted stripes → 1 ≤ length rows → length rows ≤ 1048576
+    → (1 ≤ length stripes) × (length stripes ≤ 4096)
+their_stripes form stripes body rows has counted some few =
+    let have = whole_entries form stripes body rows has in
+    let size = counted_size form stripes body rows counted have in
+    (some_stripes form stripes body rows some have, omega (arith, size, few))
+
+pub is_there : {A : Type 0} (found : Option A) → IsSome found → ((x : A) → found ≡ Some x → ⊥) → ⊥
+is_there None some other = (let bad : false ≡ true = some in cc)
+is_there (Some x) some other = other x refl

@@ -1,11 +1,11 @@
 //! A block that is built row by row. A stripe is written as soon as its rows are there, and these are dropped.
 
-ghost use Rattle.std.specs.Prelude.{◌≡◌, ◌++◌, ◌∷◌, ◌≤◌, [], ℕ, IfOk, IfSome, List, OnOk, length, true};
+ghost use Rattle.std.specs.Prelude.{◌≡◌, ◌++◌, ◌∷◌, ◌≤◌, [], ℕ, IfOk, IfSome, IsSome, IsTrue, List, OnOk, false, length, true};
 ghost use Rattle.span_types.specs.declared.spans.Row.{Row};
-ghost use Rattle.block_format.specs.Blocks.{BlockHasInfo, StripeHasEntry};
+ghost use Rattle.block_format.specs.Blocks.{BlockHasInfo, StripeHasEntry, form_of_rows};
 ghost use Rattle.block_stripes.specs.StripeReadings.{ascend};
 ghost use Rattle.block_stripes.specs.Stripes.{StripeHolds, can_be_stripe, is_extended};
-ghost use Rattle.block_build.specs.Builders.{IsWritten, Puts, Takes};
+ghost use Rattle.block_build.specs.Builders.{HasForm, IsWritten, Puts, Takes};
 
 use crate::building::BuiltBlock;
 use crate::placing::close;
@@ -23,7 +23,7 @@ const PAGE_BYTES: usize = 4096;
 /// A block to which rows are added in block order. What it has taken, contracts say by `Takes`.
 ///
 /// Its form is said before the rows are known. If these want another form, or aren't in block order, it isn't sure of
-/// its block, and gives none.
+/// its block, and gives none. Otherwise it gives one, as [`Builder::finish`] says.
 #[derive(Drop)]
 pub struct Builder {
     alloc: Global,
@@ -42,7 +42,8 @@ pub struct Builder {
 impl Builder {
     /// A block of this form without rows.
     pub fn new(alloc: Global, form: u8) -> Builder
-        ensures { Takes result [] }
+        ensures takes { Takes result [] }
+        ensures form { HasForm result form }
     {
         Builder {
             alloc,
@@ -58,7 +59,8 @@ impl Builder {
 
     /// Adds a row behind the others, and writes their stripe if it is full.
     pub fn add(&mut self, row: Row) -> Result<(), Memory>
-        ensures { OnOk result ((rows : List Row) → Takes self.old rows → Takes self.new (rows ++ row ∷ [])) }
+        ensures takes { OnOk result ((rows : List Row) → Takes self.old rows → Takes self.new (rows ++ row ∷ [])) }
+        ensures form { OnOk result ((form : ℕ) → HasForm self.old form → HasForm self.new form) }
     {
         self.rows.push(row)?;
         if self.rows.len() < STRIPE_ROWS {
@@ -67,11 +69,13 @@ impl Builder {
         self.write()
     }
 
-    /// The block of the rows that were added, if they are in block order, 1 to 1,048,576 and of the form that was said.
-    /// `None` says nothing.
+    /// The block of the rows that were added. None comes only where they aren't 1 to 1,048,576 rows in block order which
+    /// want the form that was said.
     pub fn finish(self) -> Result<Option<BuiltBlock>, Memory>
-        ensures { (rows : List Row) → Takes self rows → ascend rows ≡ true
+        ensures block { (rows : List Row) → Takes self rows → ascend rows ≡ true
             → IfOk result (λ found. IfSome found (λ built. BlockHasInfo built.info built.bytes rows)) }
+        ensures some { (rows : List Row) → Takes self rows → ascend rows ≡ true → HasForm self (form_of_rows rows)
+            → 1 ≤ length rows → length rows ≤ 1048576 → IfOk result (λ found. IsSome found) }
     {
         let mut builder = self;
         builder.write_rest()?;
@@ -93,6 +97,7 @@ impl Builder {
     fn is_sure(&self) -> bool
         ensures sure { result ≡ true → self.now.sure ≡ true }
         ensures form { result ≡ true → self.now.form ≡ self.now.wanted }
+        ensures other { result ≡ false → IsTrue self.now.sure → self.now.form ≡ self.now.wanted → ⊥ }
     {
         self.sure && self.form == self.wanted
     }
@@ -107,8 +112,9 @@ impl Builder {
         self.write()
     }
 
-    /// Writes the rows that aren't written yet as a stripe.
+    /// Writes the rows that aren't written yet, of which there are some, as a stripe.
     fn write(&mut self) -> Result<(), Memory>
+        requires { 1 ≤ length self.old.rows.items }
         ensures { OnOk result (IsWritten self.old self.new) }
     {
         let rows = mem::replace(&mut self.rows, Vec::new(self.alloc));

@@ -1,12 +1,12 @@
 //! The stripes of a block, placed behind its header once it is known how many pages that has.
 
-ghost use Rattle.std.specs.Prelude.{◌≡◌, ◌⊎◌, ◌++◌, ◌+◌, ◌≤◌, ◌^◌, IfOk, IfSome, IsTrue, List, length, true};
+ghost use Rattle.std.specs.Prelude.{◌≡◌, ◌⊎◌, ◌++◌, ◌+◌, ◌≤◌, ◌^◌, IfOk, IfSome, IsSome, List, false, length, true};
 ghost use Rattle.std.specs.List.{All};
 ghost use Rattle.span_types.specs.declared.spans.Row.{Row};
 ghost use Rattle.block_format.specs.Blocks.{BlockHasInfo, form_of_rows, ids_of};
 ghost use Rattle.block_format.specs.Headers.{AreFromPage, HasRows};
 ghost use Rattle.block_stripes.specs.StripeReadings.{ascend};
-ghost use Rattle.block_build.specs.Builders.{HasStripes};
+ghost use Rattle.block_build.specs.Builders.{AreCounted, HasStripes};
 ghost use Rattle.block_build.specs.Places.{placed};
 
 use crate::building::BuiltBlock;
@@ -34,9 +34,12 @@ pub fn close(
     stripes: Vec<StripeInfo>,
     ids: &Ids,
 ) -> Result<Option<BuiltBlock>, Memory>
-    ensures { (rows : List Row) → HasStripes form stripes.items body.items rows → ids.now ≡ ids_of rows
+    ensures block { (rows : List Row) → HasStripes form stripes.items body.items rows → ids.now ≡ ids_of rows
         → form ≡ form_of_rows rows → ascend rows ≡ true
         → IfOk result (λ found. IfSome found (λ built. BlockHasInfo built.info built.bytes rows)) }
+    ensures some { (rows : List Row) → HasStripes form stripes.items body.items rows → ids.now ≡ ids_of rows
+        → form ≡ form_of_rows rows → AreCounted stripes.items → 1 ≤ length rows → length rows ≤ 1048576
+        → IfOk result (λ found. IsSome found) }
 {
     let count = stripes.len();
     if !is_possible(form, count, ids.len()) {
@@ -73,6 +76,7 @@ fn is_possible(form: u8, stripes: usize, rows: usize) -> bool
     ensures some { result ≡ true → 1 ≤ stripes }
     ensures few { result ≡ true → stripes ≤ 4096 }
     ensures few_rows { result ≡ true → rows ≤ 1048576 }
+    ensures other { result ≡ false → (form ≡ 1) ⊎ (form ≡ 2) → 1 ≤ stripes → stripes ≤ 4096 → rows ≤ 1048576 → ⊥ }
 {
     (form == 1 || form == 2) && 1 <= stripes && stripes <= MOST_STRIPES && rows <= MOST_ROWS
 }
@@ -103,7 +107,8 @@ fn behind(front: &[u8], body: Vec<u8>) -> Result<Vec<u8>, Memory>
 }
 
 /// The entries of stripes of which the first begins at that page, and each other one where the one before it ends. There
-/// are none if they aren't such as the stripes of a block have.
+/// are none if one has another number of rows than a stripe of a block. No memory has bytes for a stripe that ends behind
+/// page 2^51.
 fn placed(
     alloc: Global,
     first: u64,
@@ -112,11 +117,15 @@ fn placed(
     requires { first ≤ 2 ^ 51 }
     ensures placed { IfOk result (λ found. IfSome found (λ all. all.items ≡ placed first stripes.now)) }
     ensures from { IfOk result (λ found. IfSome found (λ all. AreFromPage first all.items)) }
+    ensures some { AreCounted stripes.now → IfOk result (λ found. IsSome found) }
 {
     let mut found = Vec::with_capacity(alloc, stripes.len())?;
     let mut page = first;
     for (index, stripe) in stripes.iter().enumerate() {
-        if !has_room(page, stripe) || !has_rows(index + 1 == stripes.len(), stripe.rows) {
+        if !has_room(page, stripe) {
+            return Err(Memory);
+        }
+        if !has_rows(index + 1 == stripes.len(), stripe.rows) {
             return Ok(None);
         }
         found.push(StripeInfo { page, ..*stripe })?;
@@ -135,7 +144,8 @@ fn has_room(page: u64, stripe: &StripeInfo) -> bool
 
 /// Whether the last stripe, or another one, can have so many rows.
 fn has_rows(last: bool, rows: u32) -> bool
-    ensures { result ≡ true → HasRows last rows }
+    ensures has { result ≡ true → HasRows last rows }
+    ensures other { result ≡ false → HasRows last rows → ⊥ }
 {
     rows == 256 || (last && 1 <= rows && rows <= 256)
 }

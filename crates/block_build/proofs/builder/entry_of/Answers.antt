@@ -1,6 +1,4 @@
-use Rattle.std.proofs.Common.{◌≡◌, ◌≤◌, List, length, subst, refl, arith}
-use Rattle.span_types.specs.declared.spans.Row.{Row}
-use Rattle.block_format.specs.Blocks.{IsEarliest, IsLatest}
+use Rattle.std.proofs.Common.{refl}
 use Rattle.block_build.proofs.RowByRow.{whole_pages}
 use Rattle.block_build.proofs.builder.entry_of.Goals as goal
 

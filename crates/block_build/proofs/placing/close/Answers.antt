@@ -1,12 +1,13 @@
-use Rattle.std.proofs.Common.{◌≡◌, ◌++◌, ◌≤◌, ℕ, List, Option, length, ap, subst, sym, refl, ◌∙◌, arith, Vec, Global}
+use Rattle.std.proofs.Common.{◌≡◌, ◌++◌, ℕ, List, Option, length, ap, subst, sym, refl, ◌∙◌, arith, Vec, Global}
 use Rattle.std.specs.Prelude.{IfSome}
 use Rattle.std.proofs.lemmas.List.{length-map}
-use Rattle.span_types.specs.declared.ids.TraceId.{TraceId}
 use Rattle.span_types.specs.declared.spans.Row.{Row}
 use Rattle.block_info.specs.declared.info.StripeInfo.{StripeInfo}
 use Rattle.block_format.specs.Headers.{AreFromPage}
+use Rattle.block_build.specs.Builders.{AreCounted}
 use Rattle.block_build.specs.Places.{placed}
-use Rattle.block_build.proofs.PlaceLaws.{can_close, closes}
+use Rattle.block_build.proofs.PlaceLaws.{can_close, closes, is_there, their_stripes}
+use Rattle.block_build.proofs.Whole.{a_form}
 use Rattle.block_build.proofs.placing.close.Goals as goal
 
 pub header_pages-pages-requires : goal.header_pages-pages-requires
@@ -37,8 +38,19 @@ info_of-info-requires c =
     can_close _ c.args.stripes.items c.len-count.result (c.is_possible.ensures.form ok) (c.is_possible.ensures.some ok) (c.is_possible.ensures.few ok) count
     c.header_pages-pages.ensures.pages (c.of.ensures ∙ made ∙ ap (placed pages) c.as_slice.ensures.value) (subst (AreFromPage pages) (sym c.of.ensures) from)
 
-pub returns : goal.returns
-returns c = λ rows has ids_are form_is order.
+pub returns-then-not-is_possible-clause-some : goal.returns-then-not-is_possible-clause-some
+returns-then-not-is_possible-clause-some c = λ rows has ids_are form_is counted some few.
+    let stripes = their_stripes c.args.form c.args.stripes.items c.args.body.items rows has counted some few in
+    let size : length c.args.ids.now ≡ length rows = ap length ids_are ∙ length-map rows (λ (row : Row). row.span.trace) in
+    absurd (c.is_possible.ensures.other c.if-not-is_possible.true (a_form c.args.form rows form_is)
+    (omega (arith, stripes.0, c.len-count.ensures, c.args.stripes.ok)) (omega (arith, stripes.1, c.len-count.ensures, c.args.stripes.ok)) (omega (arith, size, few, c.len.ensures)))
+
+pub returns-in_default-clause-some : goal.returns-in_default-clause-some
+returns-in_default-clause-some c = λ rows has ids_are form_is counted some few.
+    absurd (is_there _ (c.in_ok-stripes.ensures.some (subst AreCounted (sym c.as_slice.ensures.value) counted)) c.in_default.not-Some)
+
+pub returns-clause-block : goal.returns-clause-block
+returns-clause-block c = λ rows has ids_are form_is order.
     let pages = c.header_pages-pages.result in
     let front = c.in_ok-front.front in
     let body = c.args.body.items in
@@ -50,3 +62,6 @@ returns c = λ rows has ids_are form_is order.
     ∙ ap (λ (l : List ℕ). l ++ c.as_slice-5.result.now) (c.in_ok-extend_from_slice.ensures.items ∙ ap (λ (l : List ℕ). l ++ c.as_slice-4.result.now) (c.in_ok-bytes.ensures ∙ ap (λ (l : List ℕ). l ++ body) c.as_slice-3.ensures))
     ∙ ap (λ (l : List ℕ). ((front ++ body) ++ l) ++ c.as_slice-5.result.now) c.as_slice-4.ensures ∙ ap (λ (l : List ℕ). ((front ++ body) ++ tail.index) ++ l) c.as_slice-5.ensures)
     c.info_of-info.ensures (c.len-2.ensures ∙ ap length ids_are ∙ length-map rows (λ (row : Row). row.span.trace))
+
+pub returns-clause-some : goal.returns-clause-some
+returns-clause-some c = λ rows has ids_are form_is counted some few. refl

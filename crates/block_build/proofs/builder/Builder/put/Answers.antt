@@ -1,7 +1,6 @@
-use Rattle.std.proofs.Common.{◌≡◌, ◌++◌, ℕ, List, max, ap, subst, sym, refl, ◌∙◌}
+use Rattle.std.proofs.Common.{◌++◌, ℕ, List, max, ap, subst, sym, refl, ◌∙◌}
 use Rattle.span_types.specs.declared.ids.TraceId.{TraceId}
-use Rattle.span_types.specs.declared.spans.Row.{Row}
-use Rattle.block_format.specs.Blocks.{StripeHasEntry, form_of_rows, ids_of}
+use Rattle.block_format.specs.Blocks.{StripeHasEntry}
 use Rattle.block_stripes.specs.Stripes.{StripeHolds}
 use Rattle.block_build.proofs.builder.Builder.put.Goals as goal
 
