@@ -2,7 +2,7 @@
 
 ghost use Rattle.std.specs.Prelude.{◌≡◌, ◌*◌, ◌≤◌, IfOk, drop, length, take, true};
 ghost use Rattle.span_fields.specs.Breaks.{Answers};
-ghost use Rattle.block_format.specs.Blocks.{BlockHolds};
+ghost use Rattle.block_format.specs.Blocks.{BlockHolds, form_of_rows};
 ghost use Rattle.block_stripes.specs.StripeReadings.{ascend};
 ghost use Rattle.block_read.specs.Answers.{made_of};
 ghost use Rattle.block_read.specs.BlockReadings.{listed_at};
@@ -52,7 +52,9 @@ pub fn checked(alloc: Global, bytes: Bytes, rows: u32) -> Result<ReadBlock, Brea
 
 impl ReadBlock {
     /// Its form: 2 where a row has an event or a link, else 1.
-    pub fn form(&self) -> u8 {
+    pub fn form(&self) -> u8
+        ensures { result ≡ form_of_rows self.now }
+    {
         self.info.form
     }
 

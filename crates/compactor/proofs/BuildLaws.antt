@@ -1,5 +1,5 @@
 -- The block that is built of several lists of rows.
-use Rattle.std.proofs.Common.{◌≡◌, ℕ, List, refl, ap, subst, sym, ◌∙◌}
+use Rattle.std.proofs.Common.{◌≡◌, ℕ, List, refl, ap, subst, sym}
 use Rattle.std.specs.List.{flat_map}
 use Rattle.span_types.specs.declared.spans.Row.{Row}
 use Rattle.span_types.specs.First.{IsFirstOf}

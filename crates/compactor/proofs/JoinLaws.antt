@@ -1,6 +1,6 @@
 -- Blocks are joined trace by trace, from the least one on.
 use Rattle.std.proofs.Common.{◌≡◌, ℕ, zero, suc, ◌+◌, ◌<◌, ◌≤◌, Bool, true, false, not, List, [], ◌∷◌, ◌++◌, length, take, drop, get_or, set, filter, Option, None, Some, Result, Ok, Err, IfOk, if◌then◌else◌, refl, sym, ap, subst, ◌∙◌, arith, append_assoc}
-use Rattle.std.specs.Prelude.{IfSome}
+use Rattle.std.specs.Prelude.{IfSome, IsSome}
 use Rattle.std.specs.List.{AllByRecursion, flat_map}
 use Rattle.std.specs.Ordering.{is_eq, is_lt, ordering_reverse}
 use Rattle.std.specs.declared.cmp.Ordering.{Ordering}
@@ -12,13 +12,13 @@ use Rattle.span_types.specs.declared.spans.Row.{Row}
 use Rattle.span_types.specs.First.{IsFirstOf}
 use Rattle.span_types.specs.Orders.{trace_cmp}
 use Rattle.rows_by_trace.specs.Traces.{is_of_trace, rows_of_trace}
-use Rattle.block_format.specs.Blocks.{BlockHasInfo}
+use Rattle.block_format.specs.Blocks.{BlockHasInfo, form_of_rows}
 use Rattle.block_build.specs.Built.{IsBlockOf}
 use Rattle.block_build.specs.declared.builder.Builder.{Builder}
 use Rattle.block_build.specs.declared.building.BuiltBlock.{BuiltBlock}
-use Rattle.block_build.specs.Builders.{Takes}
-use Rattle.block_cursor.specs.Wholes.{AreFrom, BeginsWith}
-use Rattle.compactor.specs.Joining.{IsJoining, IsLeast, IsMoved, IsTaking, rows_of_others}
+use Rattle.block_build.specs.Builders.{HasForm, Takes}
+use Rattle.block_cursor.specs.Wholes.{AreFrom, BeginsWith, TakesFirst}
+use Rattle.compactor.specs.Joining.{IsJoining, IsLeast, IsMoved, IsTaking, WantsOther, rows_of_others}
 use Rattle.block_build.proofs.TraceByTrace.{Apart, beside, is_below, is_same, map_all, through, trace_cmp_total}
 use Rattle.compactor.proofs.ByTrace.{alike_by_trace}
 
@@ -48,20 +48,20 @@ twice p (x ∷ xs) =
 
 -- no row passes both tests
 never : (p q : Row → Bool) → ((x : Row) → q x ≡ true → p x ≡ false) → (xs : List Row) → filter p (filter q xs) ≡ []
-never p q no [] = refl
-never p q no (x ∷ xs) =
+never p q other [] = refl
+never p q other (x ∷ xs) =
     elim (q x) as (λ t. q x ≡ t → filter p (if t then x ∷ filter q xs else filter q xs) ≡ []) [
-      | true ↦ λ e. ap (λ (t : Bool). if t then x ∷ filter p (filter q xs) else filter p (filter q xs)) (no x e) ∙ never p q no xs
-      | false ↦ λ e. never p q no xs
+      | true ↦ λ e. ap (λ (t : Bool). if t then x ∷ filter p (filter q xs) else filter p (filter q xs)) (other x e) ∙ never p q other xs
+      | false ↦ λ e. never p q other xs
     ] refl
 
 -- what passes the one passes the other
 always : (p q : Row → Bool) → ((x : Row) → q x ≡ false → p x ≡ false) → (xs : List Row) → filter p (filter q xs) ≡ filter p xs
-always p q yes [] = refl
-always p q yes (x ∷ xs) =
+always p q kept [] = refl
+always p q kept (x ∷ xs) =
     elim (q x) as (λ t. q x ≡ t → filter p (if t then x ∷ filter q xs else filter q xs) ≡ filter p (x ∷ xs)) [
-      | true ↦ λ e. ap (λ (l : List Row). if p x then x ∷ l else l) (always p q yes xs)
-      | false ↦ λ e. always p q yes xs ∙ sym (ap (λ (t : Bool). if t then x ∷ filter p xs else filter p xs) (yes x e))
+      | true ↦ λ e. ap (λ (l : List Row). if p x then x ∷ l else l) (always p q kept xs)
+      | false ↦ λ e. always p q kept xs ∙ sym (ap (λ (t : Bool). if t then x ∷ filter p xs else filter p xs) (kept x e))
     ] refl
 
 flip : (a : Bool) → not a ≡ true → a ≡ false
@@ -150,7 +150,7 @@ fewer t (x ∷ xs) =
     ]
 
 own_trace : (x : Row) (t : TraceId) → x.span.trace ≡ t → is_of_trace t x ≡ true
-own_trace x t e = ap (λ (u : TraceId). is_eq (trace_cmp u t)) e ∙ tied_itself trace_cmp_total t
+own_trace x t e = ap (λ (u : TraceId). is_eq (trace_cmp u t)) e ∙ ap is_eq (tied_itself trace_cmp_total t)
 
 group_next : (t : TraceId) (x : Row) (xs : List Row) → x.span.trace ≡ t → rows_of_trace t (x ∷ xs) ≡ x ∷ rows_of_trace t xs
 group_next t x xs e = ap (λ (b : Bool). if b then x ∷ rows_of_trace t xs else rows_of_trace t xs) (own_trace x t e)
@@ -186,9 +186,12 @@ next_other t next (x ∷ xs) begins other from =
     let below : trace_cmp t next ≡ Less = is_below t next (subst (λ (u : TraceId). is_lt (trace_cmp u t) ≡ false) begins.0 from.0) (other_way t next other) in
     only_above t (x ∷ xs) (map_all (λ (y : Row). is_lt (trace_cmp y.span.trace next) ≡ false) (λ (y : Row). trace_cmp t y.span.trace ≡ Less) (x ∷ xs) (λ y h. through t next y.span.trace below h) begins.1)
 
+pub next_same : (t next : TraceId) (rows : List Row) → BeginsWith next rows → is_eq (trace_cmp next t) ≡ true → BeginsWith t rows
+next_same t next rows begins same = subst (λ (u : TraceId). BeginsWith u rows) (is_same next t (ap not same)) begins
+
 pub none_left : (t : TraceId) (rows : List Row) → rows ≡ [] → (rows_of_trace t rows ≡ []) × (rows_of_others t rows ≡ rows)
 none_left t [] e = (refl, refl)
-none_left t (x ∷ xs) e = cc
+none_left t (x ∷ xs) e = (cc, cc)
 
 pub taking_begins : (t : TraceId) (rows group : List Row) → group ≡ [] → AreFrom t rows → IsTaking t rows rows group
 taking_begins t rows group none from = record { from = from; taken = ap (λ (l : List Row). l ++ rows_of_trace t rows) none; others = refl }
@@ -208,6 +211,14 @@ taking_next t rows [] rest group new begins moved so_far = absurd begins
 taking_next t rows (x ∷ xs) rest group new begins moved so_far =
     let m = moved x xs refl in
     taking_more t rows (x ∷ xs) rest group new x (ap (λ (l : List Row). x ∷ l) (sym m.0)) begins m.1 so_far
+
+same_rows : (x y : Row) (xs ys : List Row) → x ∷ xs ≡ y ∷ ys → (x ≡ y) × (xs ≡ ys)
+same_rows x y xs ys e = (cc, cc)
+
+pub moves_first : (o : Option Row) (row : Row) (old new group more : List Row) → o ≡ Some row → TakesFirst o old new → more ≡ group ++ row ∷ [] → IsMoved old new group more
+moves_first o row old new group more is taken added = λ first rest there.
+    let same = same_rows row first new rest (sym (subst (λ (o : Option Row). TakesFirst o old new) is taken) ∙ there) in
+    (same.1, added ∙ ap (λ (r : Row). group ++ r ∷ []) same.0)
 
 pub fewer_left : (t : TraceId) (left rest group new : List Row) → BeginsWith t left → IsMoved left rest group new → length rest < length left
 fewer_left t [] rest group new begins moved = absurd begins
@@ -262,6 +273,10 @@ least_latter t u xs ys order a b = (
   (let one = b.1 in let two = fewer u xs in let sum = count_both u xs ys in let size = length-append xs ys in omega (arith, one, two, sum, size)),
 )
 
+pub no_rows : (o : Option TraceId) (rows : List Row) → ((t : TraceId) → o ≡ Some t → ⊥) → IsLeast o rows → rows ≡ []
+no_rows None rows other is = is
+no_rows (Some t) rows other is = absurd (other t refl)
+
 pub least_alone : (o : Option TraceId) (xs ys : List Row) → ys ≡ [] → IsLeast o xs → IsLeast o (xs ++ ys)
 least_alone o xs ys none is = subst (IsLeast o) (sym (ap (λ (l : List Row). xs ++ l) none ∙ append-nil xs)) is
 
@@ -293,12 +308,12 @@ part_from t (p ∷ parts) (suc i) d low from = part_from t parts i d (omega (ari
 
 -- the rows of the trace are taken of so many parts
 pub record IsGathering (t : TraceId) (parts : List (List Row)) (i : ℕ) (lefts group : List (List Row)) : Type 0 where
-  pub group : flat group ≡ rows_of_trace t (flat (take i parts))
+  pub taken : flat group ≡ rows_of_trace t (flat (take i parts))
   pub done : flat (take i lefts) ≡ rows_of_others t (flat (take i parts))
   pub same : drop i lefts ≡ drop i parts
 
 pub gathers_none : (t : TraceId) (parts group : List (List Row)) → group ≡ [] → IsGathering t parts 0 parts group
-gathers_none t parts group none = record { group = ap flat none; done = refl; same = refl }
+gathers_none t parts group none = record { taken = ap flat none; done = refl; same = refl }
 
 same_heads : (x y : List Row) (xs ys : List (List Row)) → x ∷ xs ≡ y ∷ ys → (x ≡ y) × (xs ≡ ys)
 same_heads x y xs ys e = (cc, cc)
@@ -323,7 +338,7 @@ gathers_more t parts lefts group new i d rows left low rows_are left_is new_is s
     let part = get_or parts i d in
     let more = parts_more parts i d next.0 in
     record {
-      group = ap flat new_is ∙ flat_more group rows ∙ ap (λ (l : List Row). l ++ rows) so_far.group
+      taken = ap flat new_is ∙ flat_more group rows ∙ ap (λ (l : List Row). l ++ rows) so_far.taken
           ∙ ap (λ (l : List Row). rows_of_trace t (flat (take i parts)) ++ l) (rows_are ∙ ap (rows_of_trace t) next.1)
           ∙ sym (group_both t (flat (take i parts)) part) ∙ ap (rows_of_trace t) (sym more);
       done = ap flat (take_more_set lefts i left low) ∙ flat_more (take i lefts) left ∙ ap (λ (l : List Row). l ++ left) so_far.done
@@ -333,14 +348,14 @@ gathers_more t parts lefts group new i d rows left low rows_are left_is new_is s
     }
 
 pub record IsGathered (t : TraceId) (parts lefts group : List (List Row)) : Type 0 where
-  pub group : flat group ≡ rows_of_trace t (flat parts)
+  pub taken : flat group ≡ rows_of_trace t (flat parts)
   pub left : flat lefts ≡ rows_of_others t (flat parts)
 
 pub gathered : (t : TraceId) (parts lefts group : List (List Row)) (i : ℕ) → length lefts ≤ i → length lefts ≡ length parts → IsGathering t parts i lefts group → IsGathered t parts lefts group
 gathered t parts lefts group i high size so_far =
     let all : flat (take i parts) ≡ flat parts = parts_all parts i (omega (arith, high, size)) in
     record {
-      group = so_far.group ∙ ap (rows_of_trace t) all;
+      taken = so_far.taken ∙ ap (rows_of_trace t) all;
       left = sym (parts_all lefts i high) ∙ so_far.done ∙ ap (rows_of_others t) all;
     }
 
@@ -351,16 +366,18 @@ pub record IsAdding (rows : List Row) (old new : Builder) (rest : List Row) : Ty
   pub added : List Row
   pub all : added ++ rest ≡ rows
   pub takes : (before : List Row) → Takes old before → Takes new (before ++ added)
+  pub form : (form : ℕ) → HasForm old form → HasForm new form
 
 pub adding_begins : (rows : List Row) (builder : Builder) (rest : List Row) → rest ≡ rows → IsAdding rows builder builder rest
-adding_begins rows builder rest all = record { added = []; all = all; takes = λ before took. subst (Takes builder) (sym (append-nil before)) took }
+adding_begins rows builder rest all = record { added = []; all = all; takes = λ before took. subst (Takes builder) (sym (append-nil before)) took; form = λ form has. has }
 
 pub adding_more : (rows : List Row) (old builder new : Builder) (rest later : List Row) (row : Row) → rest ≡ row ∷ later → ((rows : List Row) → Takes builder rows → Takes new (rows ++ row ∷ []))
-    → IsAdding rows old builder rest → IsAdding rows old new later
-adding_more rows old builder new rest later row is adds so_far = record {
+    → ((form : ℕ) → HasForm builder form → HasForm new form) → IsAdding rows old builder rest → IsAdding rows old new later
+adding_more rows old builder new rest later row is adds stays so_far = record {
   added = so_far.added ++ row ∷ [];
   all = append_assoc so_far.added (row ∷ []) later ∙ ap (λ (l : List Row). so_far.added ++ l) (sym is) ∙ so_far.all;
   takes = λ before took. subst (Takes new) (append_assoc before so_far.added (row ∷ [])) (adds (before ++ so_far.added) (so_far.takes before took));
+  form = λ form has. stays form (so_far.form form has);
 }
 
 no_items : (rows : List Row) → length rows ≡ 0 → rows ≡ []
@@ -374,25 +391,37 @@ adding_ends rows old new rest none so_far before took =
 
 -- ---- the whole
 
-pub joining_begins : (rows left : List Row) (builder : Builder) → left ≡ rows → Takes builder [] → IsJoining rows left builder
-joining_begins rows left builder same takes = record { found = []; takes = takes; goes_on = λ firsts is. subst (λ (l : List Row). IsFirstOf l firsts) same is }
+pub joining_begins : (rows left : List Row) (form : ℕ) (builder : Builder) → left ≡ rows → Takes builder [] → HasForm builder form → IsJoining rows left form builder
+joining_begins rows left form builder same takes has = record { found = []; takes = takes; of_form = has; goes_on = λ firsts is. subst (λ (l : List Row). IsFirstOf l firsts) same is }
 
-pub joining_more : (rows left rest group firsts : List Row) (t : TraceId) (builder new : Builder) → AreFrom t left → group ≡ rows_of_trace t left → rest ≡ rows_of_others t left → IsFirstOf group firsts
-    → ((before : List Row) → Takes builder before → Takes new (before ++ firsts)) → IsJoining rows left builder → IsJoining rows rest new
-joining_more rows left rest group firsts t builder new from group_is rest_is are adds so_far = record {
+pub joining_more : (rows left rest group firsts : List Row) (t : TraceId) (form : ℕ) (builder new : Builder) → AreFrom t left → group ≡ rows_of_trace t left → rest ≡ rows_of_others t left → IsFirstOf group firsts
+    → ((before : List Row) → Takes builder before → Takes new (before ++ firsts)) → ((form : ℕ) → HasForm builder form → HasForm new form) → IsJoining rows left form builder → IsJoining rows rest form new
+joining_more rows left rest group firsts t form builder new from group_is rest_is are adds stays so_far = record {
   found = so_far.found ++ firsts;
   takes = adds so_far.found so_far.takes;
+  of_form = stays form so_far.of_form;
   goes_on = λ more is. join_step rows left t so_far.found firsts from (subst (λ (l : List Row). IsFirstOf l firsts) group_is are) so_far.goes_on more (subst (λ (l : List Row). IsFirstOf l more) rest_is is);
 }
+
+pub fewer_rest : (t : TraceId) (left rest : List Row) → rest ≡ rows_of_others t left → length (rows_of_others t left) < length left → length rest < length left
+fewer_rest t left rest is less = (let size = ap length is in omega (arith, size, less))
 
 no_firsts : IsFirstOf [] []
 no_firsts = record { only = λ k d low. absurd (omega (arith, low)); whole = λ k r e. cc; ordered = λ k d low. absurd (omega (arith, low)) }
 
-pub joining_ends : (rows left : List Row) (builder : Builder) → left ≡ [] → (so_far : IsJoining rows left builder) → IsFirstOf rows so_far.found
-joining_ends rows left builder none so_far =
+pub joining_ends : (rows left : List Row) (form : ℕ) (builder : Builder) → left ≡ [] → (so_far : IsJoining rows left form builder) → IsFirstOf rows so_far.found
+joining_ends rows left form builder none so_far =
     subst (IsFirstOf rows) (append-nil so_far.found) (so_far.goes_on [] (subst (λ (l : List Row). IsFirstOf l []) (sym none) no_firsts))
 
 pub finished : {E : Type 0} (r : Result (Option BuiltBlock) E) (rows found : List Row) → IsFirstOf rows found → IfOk r (λ o. IfSome o (λ built. BlockHasInfo built.info built.bytes found)) → IfOk r (λ o. IfSome o (λ built. IsBlockOf rows built))
 finished (Ok None) rows found is has = tt
 finished (Ok (Some built)) rows found is has = record { firsts = found; firsts_are = is; describes = has }
 finished (Err e) rows found is has = tt
+
+no_block : (built : BuiltBlock) → Some built ≡ None → ⊥
+no_block built e = cc
+
+pub wants_other : {E : Type 0} (r : Result (Option BuiltBlock) E) (rows found : List Row) (form : ℕ) → IsFirstOf rows found → (form ≡ form_of_rows found → IfOk r (λ o. IsSome o)) → IfOk r (λ o. o ≡ None → WantsOther rows form)
+wants_other (Ok None) rows found form is some = λ _. record { firsts = found; are = is; other = λ e. (let bad : false ≡ true = some e in cc) }
+wants_other (Ok (Some built)) rows found form is some = λ e. absurd (no_block built e)
+wants_other (Err e) rows found form is some = tt

@@ -5,4 +5,5 @@ mod BuildLaws
 pub mod WriteLaws
 mod RoundLaws
 mod ByTrace
+mod FormLaws
 mod JoinLaws

@@ -1,16 +1,18 @@
 //! The block of the rows of several blocks.
 
-ghost use Rattle.std.specs.Prelude.{◌≡◌, ◌++◌, ◌≤◌, length, IfOk, OnOk};
+ghost use Rattle.std.specs.Prelude.{◌≡◌, ◌≤◌, false, length, IfOk};
 ghost use Rattle.std.specs.List.{flat_map};
 ghost use Rattle.block_build.specs.Built.{IsBlockOf};
+ghost use Rattle.block_format.specs.Blocks.{form_of_rows};
+ghost use Rattle.compactor.specs.Joining.{WantsOther};
 ghost use Rattle.compactor.specs.Rounds.{IsJoined};
 ghost use Rattle.compactor.specs.Phases.{relabelled};
 
 use crate::joining::join_in_form;
-use block_build::{BuiltBlock, build};
-use block_cursor::{ReadBlock, RowsLeft};
+use block_build::BuiltBlock;
+use block_cursor::ReadBlock;
 use block_info::{BlockInfo, SharedInfo};
-use span_types::{Bytes, Memory, Row, Rows};
+use span_types::{Bytes, Memory};
 use std::alloc::Global;
 
 /// A compaction's block, as it is to be written and listed.
@@ -37,52 +39,44 @@ pub(crate) fn build_block(
     Ok(block)
 }
 
-// The block of the rows of all parts. It has the greatest form of the parts, or form 1 if each row with an event or a link
-// was another copy of a row without.
+// The block of the rows of all parts. It has form 1 where each row with an event or a link was another copy of a row without.
 fn join(alloc: Global, parts: &[ReadBlock]) -> Result<BuiltBlock, Memory>
     requires some { 1 ≤ length (flat_map (λ rows. rows) parts.now) }
     requires few { length (flat_map (λ rows. rows) parts.now) ≤ 1048576 }
     ensures { IfOk result (λ built. IsBlockOf (flat_map (λ rows. rows) parts.now) built) }
 {
-    if let Some(built) = join_in_form(alloc, parts, greatest_form(parts))? {
-        return Ok(built);
+    if !any_rich(parts) {
+        return join_plain(alloc, parts);
     }
-    if let Some(built) = join_in_form(alloc, parts, 1)? {
-        return Ok(built);
+    match join_in_form(alloc, parts, 2)? {
+        Some(built) => Ok(built),
+        None => join_plain(alloc, parts),
     }
-    let rows = all_rows(alloc, parts)?;
-    build(alloc, rows)
 }
 
-// The greatest form of the parts.
-fn greatest_form(parts: &[ReadBlock]) -> u8 {
-    let mut form = 1;
-    for part in parts {
-        form = part.form().max(form);
-    }
-    form
-}
-
-// The rows of all parts, one part after the other.
-fn all_rows(alloc: Global, parts: &[ReadBlock]) -> Result<Rows, Memory>
-    ensures { IfOk result (λ rows. rows ≡ flat_map (λ rows. rows) parts.now) }
+// The block of form 1, which the first occurrences want unless they want form 2.
+fn join_plain(alloc: Global, parts: &[ReadBlock]) -> Result<BuiltBlock, Memory>
+    requires some { 1 ≤ length (flat_map (λ rows. rows) parts.now) }
+    requires few { length (flat_map (λ rows. rows) parts.now) ≤ 1048576 }
+    requires plain { WantsOther (flat_map (λ rows. rows) parts.now) 1 → ⊥ }
+    ensures { IfOk result (λ built. IsBlockOf (flat_map (λ rows. rows) parts.now) built) }
 {
-    let mut rows = Vec::new(alloc);
-    for part in parts {
-        add_rows(alloc, part, &mut rows)?;
+    match join_in_form(alloc, parts, 1)? {
+        Some(built) => Ok(built),
+        None => unreachable!(),
     }
-    Ok(Rows::of(rows))
 }
 
-// Adds the rows of a part to others.
-fn add_rows(alloc: Global, part: &ReadBlock, rows: &mut Vec<Row>) -> Result<(), Memory>
-    ensures { OnOk result (rows.new.items ≡ rows.old.items ++ part.now) }
+// Whether a part has a row with an event or a link.
+fn any_rich(parts: &[ReadBlock]) -> bool
+    ensures { result ≡ false → form_of_rows (flat_map (λ rows. rows) parts.now) ≡ 1 }
 {
-    let mut left = RowsLeft::of(alloc, part)?;
-    while let Some(row) = left.next()? {
-        rows.push(row)?;
+    for part in parts {
+        if part.form() == 2 {
+            return true;
+        }
     }
-    Ok(())
+    false
 }
 
 // A built block, whose information names this file and this level.

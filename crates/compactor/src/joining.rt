@@ -1,14 +1,14 @@
 //! The rows of several blocks, gone over trace by trace. Their first occurrences are built to a block as they are found, so
 //! that no more rows are in memory than those of a trace and of some stripes.
 
-ghost use Rattle.std.specs.Prelude.{◌≡◌, ◌++◌, ◌≤◌, [], IfOk, IfSome, List, OnOk, false, length, true};
+ghost use Rattle.std.specs.Prelude.{◌≡◌, ◌++◌, ◌≤◌, [], ℕ, IfOk, IfSome, List, None, OnOk, false, length, true};
 ghost use Rattle.std.specs.List.{flat_map};
 ghost use Rattle.span_types.specs.declared.spans.Row.{Row};
 ghost use Rattle.rows_by_trace.specs.Traces.{rows_of_trace};
 ghost use Rattle.block_build.specs.Built.{IsBlockOf};
-ghost use Rattle.block_build.specs.Builders.{Takes};
+ghost use Rattle.block_build.specs.Builders.{HasForm, Takes};
 ghost use Rattle.block_cursor.specs.Wholes.{AreFrom, BeginsWith};
-ghost use Rattle.compactor.specs.Joining.{IsLeast, IsMoved, rows_of_others};
+ghost use Rattle.compactor.specs.Joining.{IsLeast, IsMoved, WantsOther, rows_of_others};
 
 use crate::merge::{RowLists, merge_rows};
 use block_build::{Builder, BuiltBlock};
@@ -16,14 +16,17 @@ use block_cursor::{ReadBlock, RowsLeft};
 use span_types::{Memory, Row, Rows, Seq, TraceId};
 use std::alloc::Global;
 
-/// The block of the first occurrences of the rows of all parts, where they want this form. `None` says nothing.
+/// The block of the first occurrences of the rows of all parts, of which there are 1 to 1,048,576. None comes only where
+/// they want another form.
 pub(crate) fn join_in_form(
     alloc: Global,
     parts: &[ReadBlock],
     form: u8,
 ) -> Result<Option<BuiltBlock>, Memory>
-    requires { 1 ≤ length (flat_map (λ rows. rows) parts.now) }
-    ensures { IfOk result (λ found. IfSome found (λ built. IsBlockOf (flat_map (λ rows. rows) parts.now) built)) }
+    requires some { 1 ≤ length (flat_map (λ rows. rows) parts.now) }
+    requires few { length (flat_map (λ rows. rows) parts.now) ≤ 1048576 }
+    ensures block { IfOk result (λ found. IfSome found (λ built. IsBlockOf (flat_map (λ rows. rows) parts.now) built)) }
+    ensures none { IfOk result (λ found. found ≡ None → WantsOther (flat_map (λ rows. rows) parts.now) form) }
 {
     let mut lefts = rows_of_parts(alloc, parts)?;
     let mut builder = Builder::new(alloc, form);
@@ -132,7 +135,8 @@ fn is_next(left: &RowsLeft<'_>, trace: TraceId) -> bool
 
 // Adds rows to a block.
 fn add_all(builder: &mut Builder, rows: Rows) -> Result<(), Memory>
-    ensures { OnOk result ((before : List Row) → Takes builder.old before → Takes builder.new (before ++ rows)) }
+    ensures takes { OnOk result ((before : List Row) → Takes builder.old before → Takes builder.new (before ++ rows)) }
+    ensures form { OnOk result ((form : ℕ) → HasForm builder.old form → HasForm builder.new form) }
 {
     for row in rows.into_vec() {
         builder.add(row)?;

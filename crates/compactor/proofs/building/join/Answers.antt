@@ -1,13 +1,9 @@
-use Rattle.std.proofs.Common.{IfOk, List, ap, arith, length, subst}
-use Rattle.block_build.specs.Built.{IsBlockOf}
-use Rattle.span_types.specs.declared.spans.Row.{Row}
+use Rattle.compactor.proofs.FormLaws.{wants_one, wants_plain}
+use Rattle.compactor.proofs.JoinLaws.{flat}
 use Rattle.compactor.proofs.building.join.Goals as goal
 
-pub build-requires-clause-some : goal.build-requires-clause-some
-build-requires-clause-some c = (let size = ap length c.in_ok-rows.ensures in omega (arith, size, c.requires.some))
+pub join_plain-requires-clause-plain : goal.join_plain-requires-clause-plain
+join_plain-requires-clause-plain c = λ other. wants_plain (flat c.args.parts.now) (c.any_rich.ensures c.if-not-any_rich.true) other
 
-pub build-requires-clause-few : goal.build-requires-clause-few
-build-requires-clause-few c = (let size = ap length c.in_ok-rows.ensures in omega (arith, size, c.requires.few))
-
-pub returns : goal.returns
-returns c = subst (λ (rows : List Row). IfOk c.build.result (λ built. IsBlockOf rows built)) c.in_ok-rows.ensures c.build.ensures.block
+pub join_plain-requires-in-None-clause-plain : goal.join_plain-requires-in-None-clause-plain
+join_plain-requires-in-None-clause-plain c = λ other. wants_one (flat c.args.parts.now) (c.in_ok-built.ensures.none c.in-None.is) other

@@ -1,9 +1,6 @@
-use Rattle.std.proofs.Common.{[], ◌∷◌, ◌++◌, ◌≡◌, ◌∙◌, List, ap, sym}
-use Rattle.span_types.specs.declared.spans.Row.{Row}
+use Rattle.compactor.proofs.JoinLaws.{moves_first}
 use Rattle.compactor.proofs.joining.take_row.Goals as goal
 
 pub returns : goal.returns
-returns c = λ row rows is.
-    let taken = c.in-Some.ensures in
-    let same : c.in-Some.row ≡ row = cc in
-    (cc, c.in_ok-push.ensures.items ∙ ap (λ (r : Row). c.args.group.now.items ++ r ∷ []) same)
+returns c =
+    moves_first _ c.in-Some.row c.args.left.now _ c.args.group.now.items c.push.new.self.items c.in-Some.is c.in_ok-row.ensures c.in_ok-push.ensures.items

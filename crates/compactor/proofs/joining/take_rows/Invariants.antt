@@ -3,8 +3,8 @@ use Rattle.std.proofs.Common.{length}
 use Rattle.compactor.specs.Joining.{IsTaking}
 use Rattle.compactor.proofs.joining.take_rows.Given as goal
 
-abbrev pub invariant-loop-left : goal.invariant-loop-left
-invariant-loop-left l = IsTaking l.trace l.fn.left l.left l.group.items
+abbrev pub invariant-loop-trace : goal.invariant-loop-trace
+invariant-loop-trace l = IsTaking l.trace l.fn.left l.left l.group.items
 
-abbrev pub decreases-loop-left : goal.decreases-loop-left
-decreases-loop-left l = length l.left
+abbrev pub decreases-loop-trace : goal.decreases-loop-trace
+decreases-loop-trace l = length l.left
