@@ -39,7 +39,7 @@ no_shorter h last more is = let all = ap count_of is ∙ count_grown h more in o
 -- ---- lines and replies
 
 -- the entry that an opening found
-added_again : Option Entry → ℕ → History → List Entry
+abbrev added_again : Option Entry → ℕ → History → List Entry
 added_again None entries h = []
 added_again (Some entry) entries h = if entries == count_of h then [] else entry ∷ []
 
@@ -52,18 +52,18 @@ again_grows (Some entry) entries h = by_count (entries == count_of h)
     by_count false = refl
 
 -- what a line adds to the history
-added_by : Kept → Act → Reply → List Entry
+abbrev pub added_by : Kept → Act → Reply → List Entry
 added_by k (Ask item) reply = accepted_entry item reply
 added_by k (Reopen moment) (Reopened entries) = added_again k.unsure entries k.history
 added_by k _ _ = []
 
-act_grows : (k : Kept) (act : Act) (r : Reply) → (kept_after k act r).history ≡ grown k.history (added_by k act r)
+pub act_grows : (k : Kept) (act : Act) (r : Reply) → (kept_after k act r).history ≡ grown k.history (added_by k act r)
 act_grows k (Ask item) r = refl
 act_grows k (Reopen moment) (Reopened entries) = again_grows k.unsure entries k.history
 act_grows k (Reopen moment) _ = sym (same_grown k.history)
 act_grows k Unread r = sym (same_grown k.history)
 
-pub added_all : Kept → List Act → List Reply → List Entry
+abbrev pub added_all : Kept → List Act → List Reply → List Entry
 added_all k [] replies = []
 added_all k (act ∷ acts) [] = []
 added_all k (act ∷ acts) (reply ∷ replies) = added_by k act reply ++ added_all (kept_after k act reply) acts replies
@@ -179,7 +179,7 @@ added_all_alike (a ∷ more) (r ∷ rs) k l same =
 -- The history has at least so many entries, and so it had where an entry wasn't sure.
 pub record Since (least : ℕ) (k : Kept) : Type 0 where
   pub now : least ≤ count_of k.history
-  pub then : (p : Pending) → Contains k.pending p → least ≤ p.length
+  pub early : (p : Pending) → Contains k.pending p → least ≤ p.length
 
 now_since : (least : ℕ) (h : History) (u : Option Entry) → least ≤ count_of h → (p : Pending) → Contains (pending_now h u) p → least ≤ p.length
 now_since least h None low p there = absurd (let none = there.1 in omega (arith, none))
@@ -188,7 +188,7 @@ now_since least h (Some entry) low p (suc n, less, is) = absurd (omega (arith, l
 
 pub were_since : (least : ℕ) (k : Kept) → Since least k → (p : Pending) → Contains (were_unsure k) p → least ≤ p.length
 were_since least k since p there = elim (Contains-append_cases k.pending (pending_now k.history k.unsure) p there) [
-  | inl early ↦ since.then p early
+  | inl early ↦ since.early p early
   | inr now ↦ now_since least k.history k.unsure since.now p now
 ]
 
@@ -199,10 +199,10 @@ line_since least act r k since = by_act act r (longer (kept_after k act r).histo
     longer h more is = let long = no_shorter k.history h more is in let low = since.now in omega (arith, long, low)
 
     by_act : (a : Act) (x : Reply) → least ≤ count_of (kept_after k a x).history → Since least (kept_after k a x)
-    by_act (Ask item) x low = record { now = low; then = since.then }
-    by_act (Reopen moment) (Reopened entries) low = record { now = low; then = were_since least k since }
-    by_act (Reopen moment) _ low = record { now = low; then = since.then }
-    by_act Unread x low = record { now = low; then = since.then }
+    by_act (Ask item) x low = record { now = low; early = since.early }
+    by_act (Reopen moment) (Reopened entries) low = record { now = low; early = were_since least k since }
+    by_act (Reopen moment) _ low = record { now = low; early = since.early }
+    by_act Unread x low = record { now = low; early = since.early }
 
 pub all_since : (least : ℕ) (acts : List Act) (replies : List Reply) (k : Kept) → Since least k → Since least (kept_after_all k acts replies)
 all_since least [] replies k since = since
@@ -210,4 +210,4 @@ all_since least (a ∷ more) [] k since = since
 all_since least (a ∷ more) (r ∷ rs) k since = all_since least more rs (kept_after k a r) (line_since least a r k since)
 
 pub begins_since : (h : History) → Since (count_of h) (begun_with h)
-begins_since h = record { now = omega arith; then = λ p there. absurd (let none = there.1 in omega (arith, none)) }
+begins_since h = record { now = omega arith; early = λ p there. absurd (let none = there.1 in omega (arith, none)) }

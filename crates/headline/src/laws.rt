@@ -23,6 +23,8 @@ ghost use Rattle.store_reopen.specs.Through.{Pending, StoodAmid};
 ghost use Rattle.client_run.specs.Answers.{HasReplied};
 ghost use Rattle.session_meaning.specs.Act.{Act};
 ghost use Rattle.session_meaning.specs.At.{At, history_of};
+ghost use Rattle.session_meaning.specs.Done.{AreDone};
+ghost use Rattle.session_meaning.specs.Place.{Place};
 ghost use Rattle.session_meaning.specs.Kept.{Kept, begun_with, kept_after_all, kept_at, were_unsure};
 ghost use Rattle.session_meaning.specs.Progress.{AreAnsweredOver};
 ghost use Rattle.session_meaning.specs.Pushes.{accepted_entries, accepted_entry, known_pushes};
@@ -118,7 +120,7 @@ pub fn each_answer_is_of_a_front()
         → TellsFront first last before earlier act reply }
 {}
 
-/// The counts of pushes that are told never fall, from one opening to the next.
+/// The counts of pushes that a session tells never fall.
 pub fn counts_grow()
     // `as_of` never falls.
     ensures as_of { (told : Bool) (items : List Item) (earlier later : List Reply)
@@ -132,7 +134,16 @@ pub fn counts_grow()
         → (first last : At) (number accepted rejected skipped further : ℕ)
         → Session told first items (earlier ++ Pushed number accepted rejected skipped ∷ later) last
         → Contains later other → known_pushes other ≡ Some further → number < further }
-    // Accepted pushes are numbered one after another.
+    // So it is over openings, where what the disk holds is told.
+    ensures over_openings { (acts : List Act) (earlier later : List Reply) (one other : Reply)
+        (first last : Place) (count further : ℕ)
+        → AreDone true first acts (earlier ++ one ∷ later) last → Contains later other
+        → known_pushes one ≡ Some count → known_pushes other ≡ Some further → count ≤ further }
+    ensures still_known { (acts : List Act) (earlier later : List Reply) (other : Reply)
+        (first last : Place) (number accepted rejected skipped further : ℕ)
+        → AreDone true first acts (earlier ++ Pushed number accepted rejected skipped ∷ later) last
+        → Contains later other → known_pushes other ≡ Some further → number < further }
+    // Accepted pushes are numbered one after another, from one opening to the next.
     ensures numbered { (told : Bool) (items : List Item) (earlier later : List Reply)
         (first last : At)
         → (number accepted rejected skipped : ℕ)

@@ -200,7 +200,7 @@ module _ {D : Type 0} (g : Ghosts D) where
           h.machine,
           h.stands,
           item_means_told item (at_core g old m) (at_core g new h.machine) reply h.calls has.0.stands.agrees h.answered h.lead (told_of old new item reply m has.0 has.1 is)
-          (blocks_counted g new h.machine h.stands.0 h.stands.1),
+              (blocks_counted g new h.machine h.stands.0 h.stands.1),
         )
 
     pub through_means : (items : List Item) (replies : List Reply) (first last : Core D) (m : Machine) → StandsThrough first m → AreAnsweredOver (port_of g) first items replies last

@@ -113,10 +113,10 @@ module _ {D : Type 0} (g : Ghosts D) where
         closed_at first (g.faults later),
         subst (λ (x : Store D). IsShownAt g x (closed_at first (g.faults later))) (sym again.closed.1) (record { faults = refl; shows = refl }),
         refused_is false moment why first (g.faults later)
-        (subst (λ (n : ℕ). n ≤ g.faults later) (sym before) counts.counts.later)
-        (λ not. counts.counts.quiet (λ e. not (err_is why (Err why) refl e)) ∙ sym before)
-        (λ is. subst (λ (n : ℕ). Raised n (g.faults later)) (sym before) (counts.counts.fault (ap Err is)))
-        (λ file at is. refl),
+            (subst (λ (n : ℕ). n ≤ g.faults later) (sym before) counts.counts.later)
+            (λ not. counts.counts.quiet (λ e. not (err_is why (Err why) refl e)) ∙ sym before)
+            (λ is. subst (λ (n : ℕ). Raised n (g.faults later)) (sym before) (counts.counts.fault (ap Err is)))
+            (λ file at is. refl),
       )
 
   done_shown : (act : Act) (old new : Store D) (reply : Reply) (first : Place) → IsDoneOver g act old reply new → IsShownAt g old first
@@ -207,10 +207,10 @@ module _ {D : Type 0} (g : Ghosts D) where
             keeps = still_closed g start disk later least first.pending (history_at first) first.unsure kept.keeps so.counts.telling so.kept;
           }),
           refused_is true moment why first (g.faults later)
-          (subst (λ (n : ℕ). n ≤ g.faults later) (sym before) so.counts.later)
-          (λ not. so.counts.quiet (λ e. not (err_is why (Err why) refl e)) ∙ sym before)
-          (λ is. subst (λ (n : ℕ). Raised n (g.faults later)) (sym before) (so.counts.fault (ap Err is)))
-          (λ file at is. absurd (so.sound tells (sound_of (history_at first) first.unsure (g.held disk) (kept.keeps.now tells (g.held disk) (held_may_stay disk tells))) file at is)),
+              (subst (λ (n : ℕ). n ≤ g.faults later) (sym before) so.counts.later)
+              (λ not. so.counts.quiet (λ e. not (err_is why (Err why) refl e)) ∙ sym before)
+              (λ is. subst (λ (n : ℕ). Raised n (g.faults later)) (sym before) (so.counts.fault (ap Err is)))
+              (λ file at is. absurd (so.sound tells (sound_of (history_at first) first.unsure (g.held disk) (kept.keeps.now tells (g.held disk) (held_may_stay disk tells))) file at is)),
         )
 
     done_kept : (act : Act) (old new : Store D) (reply : Reply) (first : Place) → IsDoneOver g act old reply new → IsKeptAt g start least old first → IsTrue (g.tells (disk_of old))

@@ -76,7 +76,9 @@ fn a_push_that_was_written_is_found(rt: HostRuntime) {
 
 #[test]
 fn a_closed_store_reads_no_line(rt: HostRuntime) {
-    let fault = calls_to_open(&rt, rt.alloc()).expect(&rt, "memory").saturating_add(4);
+    let fault = calls_to_open(&rt, rt.alloc())
+        .expect(&rt, "memory")
+        .saturating_add(4);
     let so_far = "$x\nreopen\npush {}\n";
     let made = calls_of(&rt, so_far, fault).expect(&rt, "memory");
     let lines = "$x\nreopen\npush {}\nreopen\nsearch { }\nno line\n\nreopen\n";

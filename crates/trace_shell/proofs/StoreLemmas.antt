@@ -84,7 +84,7 @@ done_over {D} g (Alone line) core store old_left old_taken told left taken to_te
     (subst (λ (rs : List Reply). AreDoneOver g (Open core) (Ask item ∷ []) rs (Open later)) (sym replies_are) (asks_over g (item ∷ []) (reply ∷ []) core later over.each)))
 
 -- where a session stands that was asked this of an open store
-abbrev asked_place : {D : Type 0} → Ghosts D → Core D → Machine → List Item → List Reply → Place
+abbrev pub asked_place : {D : Type 0} → Ghosts D → Core D → Machine → List Item → List Reply → Place
 asked_place g core m items replies = record { store = at_core g core m; is_open = true; unsure = unsure_after_all None items replies; pending = [] }
 
 -- What a command other than a session came to over a core, by machines that go with it.

@@ -251,7 +251,7 @@ too_long_word line long = go (is_reopen line) refl
     go false is = refl
 
 -- It is refused, whatever the moment; or it isn't read in a closed store.
-long_act : {D : Type 0} → Store D → ℕ → Act
+abbrev long_act : {D : Type 0} → Store D → ℕ → Act
 long_act (Open core) size = Ask (Err (refusal.TooLong size))
 long_act (Closed disk) size = Unread
 
