@@ -147,17 +147,17 @@ add_none item items here later = ap (λ (b : Bool). b || list_any blames_disk it
 act_none : (act : Act) (acts : List Act) → act_blames_disk act ≡ false → list_any act_blames_disk acts ≡ false → list_any act_blames_disk (act ∷ acts) ≡ false
 act_none act acts here later = ap (λ (b : Bool). b || list_any act_blames_disk acts) here ∙ later
 
-line_none : (moment : ℕ) (line : List ℕ) (refused : List (List ℕ)) (act : Act) → ComesTo moment line refused act → act_blames_disk act ≡ false
-line_none moment line refused (Ask item) comes = asked_none moment line refused item comes.1
-line_none moment line refused (Reopen at) comes = refl
-line_none moment line refused Unread comes = refl
+come_none : (moment : ℕ) (line : List ℕ) (refused : List (List ℕ)) (act : Act) → ComesTo moment line refused act → act_blames_disk act ≡ false
+come_none moment line refused (Ask item) comes = asked_none moment line refused item comes.1
+come_none moment line refused (Reopen at) comes = refl
+come_none moment line refused Unread comes = refl
 
 all_none : (lines : List (List ℕ)) (moments : Option (List ℕ)) (acts : List Act) (refused : List (List ℕ)) → AreAsked lines moments acts refused → list_any act_blames_disk acts ≡ false
 all_none [] moments acts refused a = ap (list_any act_blames_disk) a.0
 all_none ([] ∷ lines) moments acts refused a = all_none lines moments acts refused a
 all_none ((b ∷ bs) ∷ lines) moments [] refused a = absurd a
 all_none ((b ∷ bs) ∷ lines) moments (act ∷ acts) refused (now, later, are, next, rest) =
-    act_none act acts (line_none next.0 (b ∷ bs) now act next.2) (all_none lines (after_moment moments) acts later rest)
+    act_none act acts (come_none next.0 (b ∷ bs) now act next.2) (all_none lines (after_moment moments) acts later rest)
 
 mapped_none : (items : List Item) → list_any blames_disk items ≡ false → list_any act_blames_disk (map Ask items) ≡ false
 mapped_none [] none = refl

@@ -60,7 +60,7 @@ begins_empty image h moment m stands begins = by_stores (count_of h) stands.stor
     }
 
     by_stores : (count : ℕ) → ImageStores image stands.rows count → BeginsEmpty m
-    by_stores count (vacant none rows zero) = of_state (new_machine m.history).state (begins.new none) refl refl refl refl refl refl
+    by_stores count (vacant listless rows zero) = of_state (new_machine m.history).state (begins.new listless) refl refl refl refl refl refl
     by_stores count (filled body blocks batches holds one rows is) =
         of_state (opened_state body blocks batches moment) (begins.found body blocks batches holds.listed holds.its_blocks holds.built holds.logged) refl refl refl refl refl refl
 

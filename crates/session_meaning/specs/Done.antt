@@ -1,5 +1,5 @@
 -- What is done in a session, line by line: something is asked, or its store is closed and opened again.
-use Rattle.std.specs.Prelude.{Bool, true, false, ◌≡◌, ⊤, ℕ, ◌≤◌, None}
+use Rattle.std.specs.Prelude.{Bool, true, false, ◌≡◌, ⊤, ℕ, ◌≤◌, List, None}
 use Rattle.disk_model.specs.Images.{Image}
 use Rattle.session_text.specs.declared.refusal.Refusal.{Refusal}
 use Rattle.session_text.specs.declared.refusal.Refusal.TheVariants.{Closed, DiskFault, Memory, NotStore}
