@@ -1,5 +1,5 @@
 -- Several clients: how the tickets of their seats are made one.
-use Rattle.std.proofs.Common.{◌≡◌, ℕ, zero, suc, ◌+◌, ◌-◌, ◌<◌, ◌≤◌, max, Bool, true, false, List, [], ◌∷◌, ◌++◌, Option, Some, Ok, Err, length, map, take, refl, sym, ◌∙◌, ap, subst, arith}
+use Rattle.std.proofs.Common.{◌≡◌, ℕ, suc, ◌+◌, ◌-◌, ◌<◌, ◌≤◌, max, Bool, true, false, List, [], ◌∷◌, ◌++◌, Option, Ok, Err, length, map, take, refl, sym, ◌∙◌, ap, subst, arith}
 use Rattle.std.specs.Prelude.{◌||◌, ◌^◌, IsTrue, Vec}
 use Rattle.std.specs.Vec.{vec_capacity, vec_len}
 use Rattle.std.specs.declared.alloc.Global.{Global}
@@ -8,7 +8,7 @@ use Rattle.session_text.specs.Items.{Item}
 use Rattle.store_model.specs.History.{History, count_of, grown}
 use Rattle.store_model.specs.State.{is_among}
 use Rattle.store_state.specs.Made.{Call}
-use Rattle.store_state.specs.Meaning.{Meaning, View}
+use Rattle.store_state.specs.Meaning.{Meaning}
 use Rattle.port_history.specs.Entries.{Entry, added_by, call_of, history_from, own}
 use Rattle.port_history.proofs.Chains.{from_is_grown, history_append}
 use Rattle.shared_store.specs.Idle.{IsOf, Store}
@@ -18,7 +18,7 @@ use Rattle.shared_store.specs.Seen.{GoesOn, ShareNone}
 use Rattle.shared_store.proofs.Both.{same_calls, same_store}
 use Rattle.shared_store.proofs.Joins.{joined_among}
 use Rattle.client_scripts.specs.Scripts.{HasAnswered, IsScriptAnswered, reply_count}
-use Rattle.client_scripts.specs.Stages.{AllApart, AllRun, HasRun, HaveRun, IsOneOf, KnowsOneLength, MayRun, is_named}
+use Rattle.client_scripts.specs.Stages.{AllRun, HasRun, HaveRun, IsOneOf, MayRun, is_named}
 use Rattle.client_scripts.specs.Told.{AreTold, told_length}
 use Rattle.client_scripts.specs.declared.script.Answered.{Answered}
 use Rattle.client_scripts.proofs.NameLemmas.{apart_more, named_more, own_nobody, own_within}

@@ -1,13 +1,13 @@
 -- What a client is told over a seat, of the history that all calls make.
-use Rattle.std.proofs.Common.{◌≡◌, inl, inr, ◌⊎◌, ⊎_elim, ℕ, suc, zero, ◌+◌, ◌-◌, ◌<◌, ◌≤◌, max, List, [], ◌∷◌, ◌++◌, Option, Some, None, Result, Ok, Err, length, take, map, refl, sym, ◌∙◌, ap, subst, arith}
+use Rattle.std.proofs.Common.{◌≡◌, inl, inr, ℕ, ◌+◌, ◌-◌, ◌≤◌, max, List, [], ◌∷◌, ◌++◌, Option, Some, None, Result, Ok, Err, length, refl, sym, ◌∙◌, ap, subst, arith}
 use Rattle.std.specs.Prelude.{IsTrue}
-use Rattle.std.proofs.lemmas.List.{append-nil, append_assoc, length-append}
+use Rattle.std.proofs.lemmas.List.{append_assoc, length-append}
 use Rattle.std.proofs.lemmas.Option.{same_Some}
 use Rattle.span_types.specs.declared.errors.Memory.{Memory as Starved}
 use Rattle.span_types.specs.declared.ids.TraceId.{TraceId}
 use Rattle.span_types.specs.declared.spans.Row.{Row}
 use Rattle.store_entries.specs.declared.entry.Entry.{Entry as Added}
-use Rattle.store_model.specs.History.{History, count_of, grown, history_rows, push_of, up_to}
+use Rattle.store_model.specs.History.{History, count_of, grown, history_rows, push_of}
 use Rattle.store_model.specs.Told.{added_entry}
 use Rattle.store_model.proofs.KeepsHolds.{grown_up}
 use Rattle.store_model.specs.Event.{Event as event}
@@ -36,7 +36,7 @@ use Rattle.session_text.specs.declared.request.Request.TheVariants as request
 use Rattle.session_text.specs.declared.request.Metrics.{Metrics}
 use Rattle.session_text.specs.Items.{Item}
 use Rattle.client_run.specs.Answers.{HasReplied, IsMetricsTold, IsSearchTold, TellsHistory, asked_of, compact_reply, counted_of, cut_reply, flush_reply, pushed_reply, reclaimed_reply, trace_reply}
-use Rattle.shared_store.specs.Seats.{SeatKnows, Stand, seat_meaning, told_by}
+use Rattle.shared_store.specs.Seats.{Stand, seat_meaning, told_by}
 use Rattle.shared_store.proofs.Both.{same_store, seen_goes_on}
 use Rattle.client_scripts.specs.Scripts.{AreAnsweredOver}
 use Rattle.client_scripts.specs.Stages.{KnowsOneLength}

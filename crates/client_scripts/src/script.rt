@@ -1,6 +1,6 @@
 //! What one client asks, and how it is answered over a port.
 
-ghost use Rattle.std.specs.Prelude.{◌≡◌, ◌^◌, ◌<◌, List};
+ghost use Rattle.std.specs.Prelude.{◌^◌, ◌<◌, List};
 ghost use Rattle.store_model.specs.Holds.{Hold};
 ghost use Rattle.client_scripts.specs.Scripts.{HasAnswered, IsAnsweredOver};
 

@@ -1,6 +1,6 @@
 //! Two clients that push and ask beside each other.
 
-ghost use Rattle.std.specs.Prelude.{◌≡◌, [], IfSome};
+ghost use Rattle.std.specs.Prelude.{[], IfSome};
 ghost use Rattle.store_core.specs.Port.{port_of};
 
 use crate::spans::{ask, push};
