@@ -37,5 +37,5 @@ returns-clause-ran g t c =
 
 pub join-mine-requires-send-F : goal.join-mine-requires-send-F
 join-mine-requires-send-F g t c κs within =
-    let bounds = c.type_bounds in
-    search (script-send, ticket.the_send, shared.the_sync, bounds.send-Q, bounds.sync-R, bounds.sync-G, sendable, crosses) depth 40 fits 100000
+    let port = c.requires-raw.1.1.1.1.0 in let rt = c.requires-raw.1.1.1.1.1.0 in let gate = c.requires-raw.1.1.1.1.1.1.0 in
+    search (script-send, ticket.the_send, shared.the_sync, port, rt, gate, sendable, crosses) depth 40 fits 100000
