@@ -33,7 +33,7 @@ pub type Scripts = Vec<Script>;
 ///
 /// All memory for this is taken before the first thread starts, and where there is none the core comes back as it was. A script that
 /// wants memory later ends there, and the others go on.
-pub fn run_scripts<R: Threads + Wait + Sync, D: Device + Drop + Send, G: Gate>(
+pub fn run_scripts<D: Device + Drop + Send, R: Threads + Wait + Sync, G: Gate>(
     rt: &R,
     alloc: Global,
     core: Core<D>,
@@ -130,6 +130,33 @@ fn run_one<R: Threads + Wait + Sync, Q: Port, G: Gate>(
     (seat.leave(), answered)
 }
 
+// Answers a script on a thread of its own, while the caller does the rest. Where no thread can be made the caller answers it too.
+fn beside<Q: Port + Send, R: Threads + Wait + Sync, G: Gate, F: FnOnce() -> T, T>(
+    rt: &R,
+    alloc: Global,
+    store: &SharedPort<Q>,
+    ticket: PortTicket<Q>,
+    script: Script,
+    client: u32,
+    gate: &G,
+    rest: F,
+) -> ((PortTicket<Q>, Answered), T)
+    requires here { IsOf store.now ticket }
+    requires client { client < 2 ^ 31 }
+    requires rest { F.pre rest }
+    ensures first { HasAnswered (seat_meaning Q.meaning) ticket script result.0.1 result.0.0 }
+    ensures second { F.post rest result.1 }
+{
+    thread::join(
+        rt,
+        move || -> (PortTicket<Q>, Answered)
+            requires { IsSync R.row × IsSend Q.row × IsSync G.row × IsOf store.now ticket × (client < 2 ^ 31) }
+            ensures { HasAnswered (seat_meaning Q.meaning) ticket script result.1 result.0 }
+        { run_one(rt, alloc, store, ticket, script, client, gate) },
+        rest,
+    )
+}
+
 // Answers all scripts, each on a thread of its own, the last one first off. The tickets of their seats are made one with this one.
 fn run_all<R: Threads + Wait + Sync, Q: Port + Send, G: Gate>(
     rt: &R,
@@ -155,14 +182,16 @@ fn run_all<R: Threads + Wait + Sync, Q: Port + Send, G: Gate>(
     };
     let client = scripts.len() as u32;
     let (ticket, mine) = two(rt, store, ticket);
-    let ((mine, answered), (ticket, answers)) = thread::join(
+    let ((mine, answered), (ticket, answers)) = beside(
         rt,
-        move || -> (PortTicket<Q>, Answered)
-            requires { IsSync R.row × IsSend Q.row × IsSync G.row × IsOf store.now mine × (client < 2 ^ 31) }
-            ensures { HasAnswered (seat_meaning Q.meaning) mine last result.1 result.0 }
-        { run_one(rt, alloc, store, mine, last, client, gate) },
+        alloc,
+        store,
+        mine,
+        last,
+        client,
+        gate,
         move || -> (PortTicket<Q>, Vec<Answered>)
-            requires { IsSync R.row × IsSend Q.row × IsSync G.row × MayRun store.now ticket scripts answers }
+            requires { MayRun store.now ticket scripts answers }
             ensures { HaveRun Q.meaning ticket scripts.items result.1.items result.0 × (vec_capacity answers ≤ vec_capacity result.1) }
         { run_all(rt, alloc, store, ticket, scripts, answers, gate) },
     );

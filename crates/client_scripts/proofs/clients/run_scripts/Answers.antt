@@ -1,10 +1,9 @@
 use denote.Param.Send.{sendable}
-use Rattle.shared_store.proofs.Crossing.{core_send}
 use Rattle.client_scripts.proofs.CoreLemmas.{core_knows_one_length, legally}
 use Rattle.client_scripts.proofs.clients.run_scripts.Goals as goal
 
 pub serve-requires-send-Q : goal.serve-requires-send-Q
-serve-requires-send-Q g c κs within = let disk = c.type_bounds.send-D in search (sendable, core_send, disk) depth 20
+serve-requires-send-Q g c κs within = let crosses = c.a_core_crosses.ensures in search (sendable, crosses) depth 20
 
 pub serve-requires-clause-length : goal.serve-requires-clause-length
 serve-requires-clause-length g c κs within = core_knows_one_length g.D.Device c.args.core
