@@ -59,7 +59,8 @@ impl Builder {
 
     /// Adds a row behind the others, and writes their stripe if it is full.
     pub fn add(&mut self, row: Row) -> Result<(), Memory>
-        ensures takes { OnOk result ((rows : List Row) → Takes self.old rows → Takes self.new (rows ++ row ∷ [])) }
+        ensures takes { OnOk result ((rows : List Row) → Takes self.old rows
+            → Takes self.new (rows ++ row ∷ [])) }
         ensures form { OnOk result ((form : ℕ) → HasForm self.old form → HasForm self.new form) }
     {
         self.rows.push(row)?;
@@ -73,8 +74,10 @@ impl Builder {
     /// want the form that was said.
     pub fn finish(self) -> Result<Option<BuiltBlock>, Memory>
         ensures block { (rows : List Row) → Takes self rows → ascend rows ≡ true
-            → IfOk result (λ found. IfSome found (λ built. BlockHasInfo built.info built.bytes rows)) }
-        ensures some { (rows : List Row) → Takes self rows → ascend rows ≡ true → HasForm self (form_of_rows rows)
+            → IfOk result (λ found.
+            IfSome found (λ built. BlockHasInfo built.info built.bytes rows)) }
+        ensures some { (rows : List Row) → Takes self rows → ascend rows ≡ true
+            → HasForm self (form_of_rows rows)
             → 1 ≤ length rows → length rows ≤ 1048576 → IfOk result (λ found. IsSome found) }
     {
         let mut builder = self;
@@ -97,7 +100,8 @@ impl Builder {
     fn is_sure(&self) -> bool
         ensures sure { result ≡ true → self.now.sure ≡ true }
         ensures form { result ≡ true → self.now.form ≡ self.now.wanted }
-        ensures other { result ≡ false → IsTrue self.now.sure → self.now.form ≡ self.now.wanted → ⊥ }
+        ensures other { result ≡ false → IsTrue self.now.sure → self.now.form ≡ self.now.wanted
+            → ⊥ }
     {
         self.sure && self.form == self.wanted
     }
@@ -147,7 +151,8 @@ impl Builder {
 fn entry_of(rows: &[RowRef<'_>], stripe: &[u8]) -> StripeInfo
     requires some { 1 ≤ length rows.now }
     requires few { length rows.now ≤ 256 }
-    ensures { (form : ℕ) → StripeHolds form stripe.now rows.now → StripeHasEntry form result stripe.now rows.now }
+    ensures { (form : ℕ) → StripeHolds form stripe.now rows.now
+        → StripeHasEntry form result stripe.now rows.now }
 {
     StripeInfo {
         page: 0,

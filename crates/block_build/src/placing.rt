@@ -34,11 +34,14 @@ pub fn close(
     stripes: Vec<StripeInfo>,
     ids: &Ids,
 ) -> Result<Option<BuiltBlock>, Memory>
-    ensures block { (rows : List Row) → HasStripes form stripes.items body.items rows → ids.now ≡ ids_of rows
+    ensures block { (rows : List Row) → HasStripes form stripes.items body.items rows
+        → ids.now ≡ ids_of rows
         → form ≡ form_of_rows rows → ascend rows ≡ true
         → IfOk result (λ found. IfSome found (λ built. BlockHasInfo built.info built.bytes rows)) }
-    ensures some { (rows : List Row) → HasStripes form stripes.items body.items rows → ids.now ≡ ids_of rows
-        → form ≡ form_of_rows rows → AreCounted stripes.items → 1 ≤ length rows → length rows ≤ 1048576
+    ensures some { (rows : List Row) → HasStripes form stripes.items body.items rows
+        → ids.now ≡ ids_of rows
+        → form ≡ form_of_rows rows → AreCounted stripes.items → 1 ≤ length rows
+        → length rows ≤ 1048576
         → IfOk result (λ found. IsSome found) }
 {
     let count = stripes.len();
@@ -76,7 +79,8 @@ fn is_possible(form: u8, stripes: usize, rows: usize) -> bool
     ensures some { result ≡ true → 1 ≤ stripes }
     ensures few { result ≡ true → stripes ≤ 4096 }
     ensures few_rows { result ≡ true → rows ≤ 1048576 }
-    ensures other { result ≡ false → (form ≡ 1) ⊎ (form ≡ 2) → 1 ≤ stripes → stripes ≤ 4096 → rows ≤ 1048576 → ⊥ }
+    ensures other { result ≡ false → (form ≡ 1) ⊎ (form ≡ 2) → 1 ≤ stripes → stripes ≤ 4096
+        → rows ≤ 1048576 → ⊥ }
 {
     (form == 1 || form == 2) && 1 <= stripes && stripes <= MOST_STRIPES && rows <= MOST_ROWS
 }
@@ -115,7 +119,8 @@ fn placed(
     stripes: &[StripeInfo],
 ) -> Result<Option<Vec<StripeInfo>>, Memory>
     requires { first ≤ 2 ^ 51 }
-    ensures placed { IfOk result (λ found. IfSome found (λ all. all.items ≡ placed first stripes.now)) }
+    ensures placed { IfOk result
+        (λ found. IfSome found (λ all. all.items ≡ placed first stripes.now)) }
     ensures from { IfOk result (λ found. IfSome found (λ all. AreFromPage first all.items)) }
     ensures some { AreCounted stripes.now → IfOk result (λ found. IsSome found) }
 {

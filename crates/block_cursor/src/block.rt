@@ -42,7 +42,8 @@ impl Model for ReadBlock {
 ///
 /// [`Break::At`] comes exactly where they are no such block, at the first byte where they are malformed.
 pub fn checked(alloc: Global, bytes: Bytes, rows: u32) -> Result<ReadBlock, Break>
-    ensures answers { Answers (λ x. x) result (made_of (λ block. block.rows) (listed_at rows bytes)) }
+    ensures answers { Answers (λ x. x) result
+        (made_of (λ block. block.rows) (listed_at rows bytes)) }
     ensures counted { IfOk result (λ block. length block ≡ rows) }
     ensures holds { IfOk result (λ block. BlockHolds bytes block) }
 {

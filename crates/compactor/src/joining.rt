@@ -25,8 +25,10 @@ pub(crate) fn join_in_form(
 ) -> Result<Option<BuiltBlock>, Memory>
     requires some { 1 ≤ length (flat_map (λ rows. rows) parts.now) }
     requires few { length (flat_map (λ rows. rows) parts.now) ≤ 1048576 }
-    ensures block { IfOk result (λ found. IfSome found (λ built. IsBlockOf (flat_map (λ rows. rows) parts.now) built)) }
-    ensures none { IfOk result (λ found. found ≡ None → WantsOther (flat_map (λ rows. rows) parts.now) form) }
+    ensures block { IfOk result
+        (λ found. IfSome found (λ built. IsBlockOf (flat_map (λ rows. rows) parts.now) built)) }
+    ensures none { IfOk result (λ found. found ≡ None
+        → WantsOther (flat_map (λ rows. rows) parts.now) form) }
 {
     let mut lefts = rows_of_parts(alloc, parts)?;
     let mut builder = Builder::new(alloc, form);
@@ -135,7 +137,8 @@ fn is_next(left: &RowsLeft<'_>, trace: TraceId) -> bool
 
 // Adds rows to a block.
 fn add_all(builder: &mut Builder, rows: Rows) -> Result<(), Memory>
-    ensures takes { OnOk result ((before : List Row) → Takes builder.old before → Takes builder.new (before ++ rows)) }
+    ensures takes { OnOk result ((before : List Row) → Takes builder.old before
+        → Takes builder.new (before ++ rows)) }
     ensures form { OnOk result ((form : ℕ) → HasForm builder.old form → HasForm builder.new form) }
 {
     for row in rows.into_vec() {

@@ -130,7 +130,8 @@ fn unread_cause(file: u32, error: Break) -> Refusal
 
 // The block that these bytes are, where its information says so many rows.
 fn read_block(alloc: Global, bytes: Bytes, rows: u32) -> Result<ReadBlock, Break>
-    ensures answers { Answers (λ x. x) result (made_of (λ block. block.rows) (listed_at rows bytes)) }
+    ensures answers { Answers (λ x. x) result
+        (made_of (λ block. block.rows) (listed_at rows bytes)) }
     ensures some { IfOk result (λ block. 1 ≤ length block) }
     ensures counted { IfOk result (λ block. length block ≡ rows) }
     ensures holds { IfOk result (λ block. BlockHolds bytes block) }
