@@ -1,6 +1,6 @@
 use Rattle.std.proofs.Common.{arith}
 use Rattle.client_scripts.proofs.RunLemmas.{left_of, one_answer_each, run_goes_on}
-use Rattle.client_scripts.proofs.clients.+fn-run_all-beside+arg8+run_all.Goals as goal
+use Rattle.client_scripts.proofs.clients.+fn-run_all-beside+run_all.Goals as goal
 
 -- The answers' places were taken before.
 pub unreachable-requires : goal.unreachable-requires
