@@ -15,7 +15,7 @@ use Rattle.block_build.proofs.Parts.{all_rest, ascend_rest, first_stripe, have_f
 
 -- ---- one stripe before others
 
-some_number : (n : ℕ) → (n ≡ 0 → ⊥) → 1 ≤ n
+pub some_number : (n : ℕ) → (n ≡ 0 → ⊥) → 1 ≤ n
 some_number zero other = absurd (other refl)
 some_number (suc n) other = omega arith
 

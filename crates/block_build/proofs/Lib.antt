@@ -6,3 +6,5 @@ pub mod Whole
 pub mod Distinct
 pub mod TraceByTrace
 pub mod Settling
+pub mod RowByRow
+pub mod PlaceLaws

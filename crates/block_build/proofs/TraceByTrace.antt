@@ -37,7 +37,7 @@ of_other k row other = rw (then_not (trace_cmp row.span.trace k.trace) (span_cmp
 -- ---- rows whose traces come before those of others
 
 -- each row's trace is below those of the others
-abbrev Apart : List Row → List Row → Type 0
+abbrev pub Apart : List Row → List Row → Type 0
 Apart a b = AllByRecursion (λ (x : Row). AllByRecursion (λ (y : Row). trace_cmp x.span.trace y.span.trace ≡ Less) b) a
 
 either : (a b : Option Row) (r : Row) → lesser a b ≡ Some r → (a ≡ Some r) ⊎ (b ≡ Some r)
@@ -66,7 +66,7 @@ none_of : (k : Key) (rows : List Row) → AllByRecursion (λ (y : Row). is_eq (t
 none_of k [] other = refl
 none_of k (x ∷ xs) other = rw (of_other k x other.0, none_of k xs other.1) refl
 
-map_all : (P Q : Row → Type 0) (rows : List Row) → ((r : Row) → P r → Q r) → AllByRecursion P rows → AllByRecursion Q rows
+pub map_all : (P Q : Row → Type 0) (rows : List Row) → ((r : Row) → P r → Q r) → AllByRecursion P rows → AllByRecursion Q rows
 map_all P Q [] f all = tt
 map_all P Q (x ∷ xs) f all = (f x all.0, map_all P Q xs f all.1)
 
@@ -155,7 +155,7 @@ rest_sorted (x ∷ xs) ys up = rest_sorted xs ys (λ k d b low.
     next : (k : ℕ) → suc k + 1 ≡ suc (k + 1)
     next k = omega arith
 
-is_same : (s t : TraceId) → not (is_eq (trace_cmp s t)) ≡ false → s ≡ t
+pub is_same : (s t : TraceId) → not (is_eq (trace_cmp s t)) ≡ false → s ≡ t
 is_same s t h = ap (λ (b : List ℕ). record { 0 = b }) (exact_bytes s.0 t.0 (equal (trace_cmp s t) h))
   where
     equal : (o : Ordering) → not (is_eq o) ≡ false → o ≡ Equal
@@ -168,11 +168,11 @@ below_other Less low other = refl
 below_other Equal low other = cc
 below_other Greater low other = cc
 
-is_below : (s t : TraceId) → is_lt (trace_cmp t s) ≡ false → not (is_eq (trace_cmp s t)) ≡ true → trace_cmp s t ≡ Less
+pub is_below : (s t : TraceId) → is_lt (trace_cmp t s) ≡ false → not (is_eq (trace_cmp s t)) ≡ true → trace_cmp s t ≡ Less
 is_below s t low other = below_other (trace_cmp s t) (sym (ap is_lt (trace_cmp_total.antisymm t s)) ∙ low) other
 
 -- what is below a trace is below what that trace isn't above
-through : (s t u : TraceId) → trace_cmp s t ≡ Less → is_lt (trace_cmp u t) ≡ false → trace_cmp s u ≡ Less
+pub through : (s t u : TraceId) → trace_cmp s t ≡ Less → is_lt (trace_cmp u t) ≡ false → trace_cmp s u ≡ Less
 through s t u less low =
     elim (is_eq (trace_cmp t u)) as (λ e. is_eq (trace_cmp t u) ≡ e → trace_cmp s u ≡ Less) [
       | true ↦ λ e. subst (λ (v : TraceId). trace_cmp s v ≡ Less) (is_same t u (ap not e)) less

@@ -27,7 +27,7 @@ one_or_two : (any : Bool) → (form_by any ≡ 1) ⊎ (form_by any ≡ 2)
 one_or_two true = inr refl
 one_or_two false = inl refl
 
-a_form : (form : ℕ) (rows : List Row) → form ≡ form_of_rows rows → (form ≡ 1) ⊎ (form ≡ 2)
+pub a_form : (form : ℕ) (rows : List Row) → form ≡ form_of_rows rows → (form ≡ 1) ⊎ (form ≡ 2)
 a_form form rows is = subst (λ (f : ℕ). (f ≡ 1) ⊎ (f ≡ 2)) (sym is) (one_or_two (list_any is_rich rows))
 
 -- all that is needed of a draft of rows before it is made a block

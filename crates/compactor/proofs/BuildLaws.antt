@@ -1,5 +1,5 @@
 -- The block that is built of several lists of rows.
-use Rattle.std.proofs.Common.{◌≡◌, ℕ, List, refl, ap, subst, sym, ◌∙◌}
+use Rattle.std.proofs.Common.{◌≡◌, ℕ, List, refl, ap, subst, sym}
 use Rattle.std.specs.List.{flat_map}
 use Rattle.span_types.specs.declared.spans.Row.{Row}
 use Rattle.span_types.specs.First.{IsFirstOf}
@@ -8,10 +8,6 @@ use Rattle.block_build.specs.Built.{IsBlockOf}
 use Rattle.block_build.specs.declared.building.BuiltBlock.{BuiltBlock}
 use Rattle.compactor.specs.Rounds.{IsJoined}
 use Rattle.compactor.specs.Phases.{relabelled}
-
--- the rows of all parts, where the parts are known by another name
-pub all_rows : (given parts : List (List Row)) (rows : List Row) → given ≡ parts → rows ≡ flat_map (λ (rows : List Row). rows) given → rows ≡ flat_map (λ (rows : List Row). rows) parts
-all_rows given parts rows same is = is ∙ ap (λ (ps : List (List Row)). flat_map (λ (rows : List Row). rows) ps) same
 
 joined_with : (file level : ℕ) (parts : List (List Row)) (rows : List Row) (built : BuiltBlock) → rows ≡ flat_map (λ (rows : List Row). rows) parts → IsBlockOf rows built
     → IsJoined file level parts built.bytes (relabelled file level built.info)

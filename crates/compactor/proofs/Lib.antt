@@ -4,4 +4,6 @@ pub mod ReadLaws
 mod BuildLaws
 pub mod WriteLaws
 mod RoundLaws
-mod TraceByTrace
+mod ByTrace
+mod FormLaws
+mod JoinLaws

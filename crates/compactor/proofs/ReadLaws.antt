@@ -1,5 +1,5 @@
 -- How a compaction's task goes on as blocks are read.
-use Rattle.std.proofs.Common.{◌≡◌, ℕ, ◌+◌, ◌-◌, ◌*◌, ◌^◌, ◌<◌, ◌≤◌, List, [], ◌∷◌, ◌++◌, length, take, drop, get_or, Result, Ok, Err, refl, sym, ap, subst, ◌∙◌, arith}
+use Rattle.std.proofs.Common.{◌≡◌, ℕ, ◌+◌, ◌-◌, ◌*◌, ◌^◌, ◌<◌, ◌≤◌, List, [], ◌∷◌, ◌++◌, length, take, drop, get_or, IfOk, Result, Ok, Err, refl, sym, ap, subst, ◌∙◌, arith}
 use Rattle.std.specs.Prelude.{IsTrue, Some}
 use Rattle.std.proofs.lemmas.List.{length_push, take_more}
 use Rattle.span_types.specs.declared.spans.Row.{Row}
@@ -304,6 +304,7 @@ pub broke : (job : CompactJob) (parts : List (List Row)) (pages : ℕ) (bytes : 
 broke job parts pages bytes info infos (breaks.At at) left all fails = Malformed info infos at left all fails
 broke job parts pages bytes info infos breaks.Memory left all fails = Starved
 
-pub has_rows : (header : Header) (bytes : List ℕ) (rows : List Row) → BlockHasHeader header bytes rows → (BlockHolds bytes [] → ⊥) → 1 ≤ length rows
-has_rows header bytes [] has none = absurd (none (record { header = header; parts = has }))
-has_rows header bytes (row ∷ rows) has none = omega arith
+pub some_rows : {E : Type 0} (r : Result (List Row) E) (bytes : List ℕ) → IfOk r (λ rows. BlockHolds bytes rows) → (BlockHolds bytes [] → ⊥) → IfOk r (λ rows. 1 ≤ length rows)
+some_rows (Ok []) bytes holds none = absurd (none holds)
+some_rows (Ok (row ∷ rows)) bytes holds none = omega arith
+some_rows (Err e) bytes holds none = tt

@@ -5,6 +5,7 @@
 #![tactic(auto)]
 
 mod building;
+mod joining;
 mod merge;
 mod reading;
 mod task;

@@ -8,7 +8,7 @@ ghost use Rattle.span_types.specs.declared.spans.Row.{Row};
 ghost use Rattle.span_types.specs.Orders.{trace_cmp};
 ghost use Rattle.rows_by_trace.specs.Traces.{rows_of_trace};
 ghost use Rattle.live_traces.specs.ByTrace.{AreByTrace};
-ghost use Rattle.compactor.specs.Merging.{GoneOver, Settled, begins_other};
+ghost use Rattle.block_build.specs.Merging.{GoneOver, Settled, begins_other};
 
 use span_types::{Memory, Row, Rows, Seq, first_rows};
 use std::alloc::Global;

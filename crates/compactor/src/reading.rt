@@ -1,29 +1,31 @@
 //! The blocks that a compaction joins, as they are read page by page.
 
 ghost use Rattle.std.specs.Prelude.{◌≡◌, ◌⊎◌, ◌+◌, ◌^◌, ◌++◌, [], ◌∷◌, ◌<◌, ◌≤◌, IfOk, drop, length};
-ghost use Rattle.byte_fields.specs.Reading.{AreBytes};
 ghost use Rattle.span_fields.specs.Breaks.{Answers};
 ghost use Rattle.block_format.specs.Blocks.{BlockHolds};
-ghost use Rattle.compactor.specs.Rounds.{pages_of, rows_at};
+ghost use Rattle.block_read.specs.Answers.{made_of};
+ghost use Rattle.block_read.specs.BlockReadings.{listed_at};
+ghost use Rattle.compactor.specs.Rounds.{pages_of};
 ghost use Rattle.compactor.specs.Phases.{OfFirst, Turned, task_of, unread_cause};
 ghost use Rattle.compactor.specs.Tasks.{HasPage, blocks_left};
 ghost use Rattle.compactor.specs.Tasks.Task.{Failing, Reading};
 ghost use Rattle.store_state.specs.declared.rounds.Refusal.TheVariants.{Memory};
 
 use crate::task::Phase;
+use block_cursor::{ReadBlock, checked};
 use block_format::a_block_has_rows;
 use block_info::BlockInfo;
-use block_read::{block_of, read_block_is_held};
 use span_fields::Break;
-use span_types::Rows;
+use span_types::Bytes;
 use std::alloc::Global;
+use std::mem;
 use store_state::{CompactJob, Refusal};
 
-// A job with the rows of each block that is read, and the pages of the next one that are read.
+// A job with each block that is read, held as its bytes, and the pages of the next one that are read.
 #[derive(Drop)]
 pub(crate) struct Progress {
     pub(crate) job: CompactJob,
-    pub(crate) parts: Vec<Rows>,
+    pub(crate) parts: Vec<ReadBlock>,
     pub(crate) pages: u64,
     pub(crate) bytes: Vec<u8>,
 }
@@ -97,7 +99,7 @@ fn settle(alloc: Global, reading: Progress, wanted: u64) -> Phase
     }
 }
 
-// Reads the rows of a block of which all pages are read.
+// Checks a block of which all pages are read.
 fn close(alloc: Global, reading: Progress) -> Phase
     requires more { length reading.parts.items < length reading.job.pin.blocks }
     requires whole { OfFirst (blocks_left reading.job reading.parts.items)
@@ -105,10 +107,13 @@ fn close(alloc: Global, reading: Progress) -> Phase
     ensures { Turned reading.job reading.parts.items reading.pages reading.bytes.items
         (task_of result) }
 {
+    let mut reading = reading;
     let block = current(&reading);
     let file = file_of(block);
-    match block_rows(alloc, reading.bytes.as_slice(), block) {
-        Ok(rows) => keep(alloc, reading, rows),
+    let rows = block.rows;
+    let bytes = mem::replace(&mut reading.bytes, Vec::new(alloc));
+    match read_block(alloc, Bytes::of(bytes), rows) {
+        Ok(block) => keep(alloc, reading, block),
         Err(error) => fail(reading, unread_cause(file, error)),
     }
 }
@@ -123,38 +128,25 @@ fn unread_cause(file: u32, error: Break) -> Refusal
     }
 }
 
-// The rows that these bytes are read to, as many as the block's information says.
-#[tactic(auto, unfolding(block_read::specs::BlockReadings::listed_at))]
-fn block_rows(alloc: Global, bytes: &[u8], info: &BlockInfo) -> Result<Rows, Break>
-    ensures answers { Answers (λ x. x) result (rows_at info.now bytes.now) }
-    ensures some { IfOk result (λ rows. 1 ≤ length rows) }
-    ensures counted { IfOk result (λ rows. length rows ≡ info.now.rows) }
-    ensures holds { IfOk result (λ rows. BlockHolds bytes.now rows) }
+// The block that these bytes are, where its information says so many rows.
+fn read_block(alloc: Global, bytes: Bytes, rows: u32) -> Result<ReadBlock, Break>
+    ensures answers { Answers (λ x. x) result
+        (made_of (λ block. block.rows) (listed_at rows bytes)) }
+    ensures some { IfOk result (λ block. 1 ≤ length block) }
+    ensures counted { IfOk result (λ block. length block ≡ rows) }
+    ensures holds { IfOk result (λ block. BlockHolds bytes block) }
 {
-    let found = block_of(alloc, bytes)?;
-    read_block_is_held();
     a_block_has_rows();
-    each_fits(bytes);
-    if found.rows.len() != info.rows as usize {
-        return Err(Break::At(0));
-    }
-    Ok(found.rows)
+    checked(alloc, bytes, rows)
 }
 
-// What bytes promise, for the proof of the caller: each is below 256. It does nothing.
-fn each_fits(bytes: &[u8])
-    ensures { AreBytes bytes.now }
-{
-    let _ = bytes;
-}
-
-// Keeps the rows of a block, behind those of the blocks before it.
-fn keep(alloc: Global, reading: Progress, rows: Rows) -> Phase
-    ensures { (task_of result ≡ Reading reading.job (reading.parts.items ++ rows ∷ []) 0 [])
+// Keeps a block, behind those before it.
+fn keep(alloc: Global, reading: Progress, block: ReadBlock) -> Phase
+    ensures { (task_of result ≡ Reading reading.job (reading.parts.items ++ block ∷ []) 0 [])
         ⊎ (task_of result ≡ Failing reading.job Memory) }
 {
     let Progress { job, mut parts, .. } = reading;
-    match parts.push(rows) {
+    match parts.push(block) {
         Ok(()) => Phase::Reading(Progress {
             job,
             parts,

@@ -1,8 +1,8 @@
 use Rattle.std.proofs.Common.{List, subst, sym, ◌∙◌}
 use Rattle.span_types.specs.declared.spans.Row.{Row}
 use Rattle.span_types.specs.First.{IsFirstOf}
-use Rattle.compactor.specs.Merging.{GoneOver}
-use Rattle.compactor.proofs.TraceByTrace.{ends, starts}
+use Rattle.block_build.specs.Merging.{GoneOver}
+use Rattle.block_build.proofs.TraceByTrace.{ends, starts}
 use Rattle.compactor.proofs.merge.firsts_by_trace.Goals as goal
 
 pub loop-row-init : goal.loop-row-init

@@ -1,5 +1,5 @@
 -- Which rows are gone over, and what is found of them.
-use Rattle.compactor.specs.Merging.{GoneOver}
+use Rattle.block_build.specs.Merging.{GoneOver}
 use Rattle.compactor.proofs.merge.firsts_by_trace.Given as goal
 
 abbrev pub invariant-loop-row : goal.invariant-loop-row

@@ -2,7 +2,7 @@ use Rattle.std.proofs.Common.{List, ap, ◌∙◌}
 use Rattle.std.specs.List.{flat_map}
 use Rattle.span_types.specs.declared.spans.Row.{Row}
 use Rattle.rows_by_trace.specs.Traces.{rows_of_trace}
-use Rattle.compactor.proofs.TraceByTrace.{alike_by_trace}
+use Rattle.compactor.proofs.ByTrace.{alike_by_trace}
 use Rattle.compactor.proofs.merge.merge_rows.Goals as goal
 
 pub returns : goal.returns

@@ -1,7 +1,7 @@
 use Rattle.std.proofs.Common.{List, ap, ◌∙◌}
 use Rattle.span_types.specs.declared.spans.Row.{Row}
-use Rattle.compactor.specs.Merging.{begins_other}
-use Rattle.compactor.proofs.TraceByTrace.{took_other, took_same}
+use Rattle.block_build.specs.Merging.{begins_other}
+use Rattle.block_build.proofs.TraceByTrace.{took_other, took_same}
 use Rattle.compactor.proofs.merge.take_row.Goals as goal
 
 pub returns-then-not-begins_other : goal.returns-then-not-begins_other

@@ -1,0 +1,2 @@
+mod CheckedBytes
+mod Taking
