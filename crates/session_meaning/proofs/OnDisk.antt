@@ -1,5 +1,5 @@
 -- What upkeep leaves on the disk.
-use Rattle.std.proofs.Common.{◌≡◌, ◌⊎◌, inl, inr, ℕ, ◌<◌, ◌≤◌, List, [], ◌∷◌, Option, Some, None, IsTrue, arith, sym, ◌∙◌, ap, subst}
+use Rattle.std.proofs.Common.{◌≡◌, ◌⊎◌, inl, inr, true, ℕ, ◌<◌, ◌≤◌, List, [], ◌∷◌, Option, Some, None, IsTrue, arith, sym, ◌∙◌, ap, subst}
 use Rattle.std.specs.List.{Contains}
 use Rattle.std.proofs.lemmas.Bool.{cases_eq, cases_lt}
 use Rattle.span_types.specs.declared.spans.Row.{Row}
@@ -25,7 +25,8 @@ use Rattle.store_core.specs.Port.{port_of}
 use Rattle.store_core.specs.declared.store.Core.{Core}
 use Rattle.store_state.specs.Made.{AreMade, Call}
 use Rattle.session_meaning.specs.Runs.{Outcome}
-use Rattle.session_meaning.specs.Stops.{AreTidy, BeginsListed, ListsState, Recovers}
+use Rattle.session_meaning.specs.Listed.{ListsState}
+use Rattle.session_meaning.specs.Stops.{AreTidy, BeginsListed, Recovers}
 
 -- ---- what a core leaves
 
@@ -99,11 +100,11 @@ begins_listed image u h moment m lists stands begins =
 
 -- A run on what an earlier one left.
 pub next_listed : {D : Type 0} (g : Ghosts D) (begun left disk later : D) (one next : Outcome) → Recovers g begun left one → Recovers g disk later next
-    → IsTrue one.opened → IsTrue next.opened → one.last.machine.read_only ≡ None → g.may_leave left (g.held disk)
-    → BeginsListed (g.held disk) one.last.machine.state next.moment next.first.machine.state
-next_listed g begun left disk later one next first second opened again writes possible =
+    → IsTrue one.opened → IsTrue next.opened → one.last.is_open ≡ true → one.last.store.machine.read_only ≡ None → g.may_leave left (g.held disk)
+    → BeginsListed (g.held disk) one.last.store.machine.state next.moment next.first.machine.state
+next_listed g begun left disk later one next first second opened again is_open writes possible =
     let start = second.begins again in
-    begins_listed (g.held disk) one.last.machine.state next.first.machine.history next.moment next.first.machine (first.kept_up opened writes (g.held disk) possible) start.stored start.begins
+    begins_listed (g.held disk) one.last.store.machine.state next.first.machine.history next.moment next.first.machine (first.kept_up opened is_open writes (g.held disk) possible) start.stored start.begins
 
 -- ---- files without a use
 

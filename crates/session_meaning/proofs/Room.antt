@@ -240,6 +240,7 @@ query_plain (refusal.Round (round_refusal.Busy job)) before after cause well = a
 query_plain (refusal.Round (round_refusal.FilesSpent next)) before after cause well = absurd cause
 query_plain (refusal.Round round_refusal.Fault) before after cause well = absurd cause
 query_plain (refusal.Round round_refusal.Memory) before after cause well = absurd cause
+query_plain refusal.Closed before after cause well = absurd cause
 query_plain (refusal.NotStore file at) before after cause well = absurd cause
 
 item_goes_on : (item : Item) (items : List Item) (before after : At) (r : Reply) → IsAnsweredOrRefused true item before r after

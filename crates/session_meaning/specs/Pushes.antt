@@ -27,6 +27,11 @@ abbrev pub unsure_or : Item → Reply → Option Entry → Option Entry
 unsure_or (Ok (Push reading moment)) (Refused DiskFault) other = Some (push_of reading.batch.spans)
 unsure_or _ _ other = other
 
+-- The entry that isn't sure after a line: that of the first push that was refused since the disk failed.
+abbrev pub unsure_after_line : Option Entry → Item → Reply → Option Entry
+unsure_after_line None item reply = unsure_or item reply None
+unsure_after_line (Some entry) item reply = Some entry
+
 -- The entry of the push that was refused since the disk failed, if there was one: whether it is stored isn't sure. There is no
 -- second one, since from then on the store takes no push.
 abbrev pub unsure_entry : List Item → List Reply → Option Entry

@@ -1,28 +1,21 @@
 -- What is stored and what upkeep has left, after a run and whenever it is stopped.
-use Rattle.std.specs.Prelude.{◌≡◌, ◌⊎◌, ℕ, List, [], map, Option, None, Some, IsTrue}
+use Rattle.std.specs.Prelude.{◌≡◌, ◌⊎◌, ℕ, true, List, [], None, IsTrue}
 use Rattle.span_types.specs.First.{IsFirstOf}
 use Rattle.span_types.specs.declared.spans.Span.{Span}
 use Rattle.disk_model.specs.Images.{Image}
 use Rattle.disk_model.specs.Crash.{Reached}
 use Rattle.disk_model.specs.declared.disk.Device.{Ghosts}
-use Rattle.block_list.specs.Slots.{ImageHoldsList}
 use Rattle.block_list.specs.declared.body.ListBody.{ListBody}
-use Rattle.store_entries.specs.declared.entry.Entry.{Entry}
 use Rattle.store_model.specs.History.{count_of}
 use Rattle.store_model.specs.State.{State}
 use Rattle.store_images.specs.Log.{LogHolds}
-use Rattle.store_images.specs.Stored.{BlocksStand, ImageStandsFor, IsTidy, KeepsStored, MayStandFor, first_number, ref_of}
-use Rattle.store_core.specs.Cores.{segment_of}
-use Rattle.store_core.specs.InUse.{AreInUse}
+use Rattle.store_images.specs.Stored.{ImageStandsFor, IsTidy, KeepsStored, MayStandFor, first_number}
 use Rattle.store_core.specs.Opening.{BeginsAs, opened_state}
-use Rattle.store_core.specs.Past.{StoodFor}
+use Rattle.store_reopen.specs.Through.{StoodAmid}
 use Rattle.session_meaning.specs.At.{At, history_of}
-use Rattle.session_meaning.specs.Pushes.{unsure_entry}
+use Rattle.session_meaning.specs.Listed.{ListsState}
+use Rattle.session_meaning.specs.Place.{ever_unsure, history_at}
 use Rattle.session_meaning.specs.Runs.{Outcome}
-
--- the entry that isn't sure, of a run
-abbrev pub unsure_of_run : Outcome → Option Entry
-unsure_of_run o = unsure_entry o.items o.replies
 
 -- The run begins with what was stored: its first history is a base alone, each span of it once, that the disk's bytes stand for;
 -- and the store begins as one that was opened on these bytes at this moment.
@@ -34,16 +27,16 @@ pub record Begins (held : Image) (moment : ℕ) (first : At) : Type 0 where
 
 -- It stands for the last history, or for it and then the entry that isn't sure.
 abbrev pub StandsForLast : Outcome → Image → Type 0
-StandsForLast o image = MayStandFor (history_of o.last) (unsure_of_run o) image
+StandsForLast o image = MayStandFor (history_at o.last) o.last.unsure image
 
 -- Each of these images does.
 abbrev pub Returns : (Image → Type 0) → Outcome → Type 0
 Returns may_leave o = (image : Image) → may_leave image → StandsForLast o image
 
--- It stands for a history that begins with the first one and that the last one begins with, or for the last one and then the
--- entry that isn't sure.
+-- It stands for a history that begins with the first one and that the last one begins with; or for such a history and then an entry
+-- that wasn't sure, where its push answered `disk-fault` at that history.
 abbrev pub StandsWithin : Outcome → Image → Type 0
-StandsWithin o image = StoodFor (count_of (history_of o.first)) (history_of o.last) (unsure_of_run o) image
+StandsWithin o image = StoodAmid (count_of (history_of o.first)) (history_at o.last) (ever_unsure o.last) image
 
 -- Each of these images keeps what an image stored at the start; or, once the store was opened, it stands for a history in
 -- between.
@@ -53,21 +46,9 @@ Leaves at_start since o =
 
 -- ---- upkeep
 
--- The image lists the state: the list that counts in it names the state's blocks, segments and floor, and the blocks' files stand for
--- their rows. Each file that the list names, or that was given out since, is one of the state's: a segment's or a block's, a loose one,
--- or an open job's.
-pub record ListsState (image : Image) (u : State) : Type 0 where
-  pub list : ListBody
-  pub counts : ImageHoldsList image (Some list)
-  pub blocks : list.blocks ≡ map ref_of u.blocks
-  pub built : BlocksStand image u.blocks
-  pub segments : u.segments ≡ map segment_of list.segments
-  pub floor : u.floor ≡ list.floor
-  pub used : AreInUse list u
-
 -- Each of these images lists the last state.
 abbrev pub ListsLast : (Image → Type 0) → Outcome → Type 0
-ListsLast may_leave o = (image : Image) → may_leave image → ListsState image o.last.machine.state
+ListsLast may_leave o = (image : Image) → may_leave image → ListsState image o.last.store.machine.state
 
 -- In each of these images a file has bytes only where the list that counts names it, as far as files were given out.
 abbrev pub AreTidy : (Image → Type 0) → Type 0
@@ -88,12 +69,12 @@ pub record BeginsListed (image : Image) (u : State) (moment : ℕ) (first : Stat
 
 -- A run over a disk that shows its bytes, which were a store's. Where the store was opened the run begins with what they store,
 -- and each image that a crash may leave of the disk that is handed back stands for that and all pushes that were accepted. If the
--- store writes at the end, each such image lists its last state: what upkeep was told to have done stands on the disk, and no more.
+-- store is open at the end and writes, each such image lists its last state: what upkeep was told to have done stands on the disk, and no more.
 -- Each image that a crash may have left at any moment of the run keeps what was stored at its start, or stands for that and the first
 -- few of these pushes; and it is tidy where all were at the start.
 pub record Recovers {D : Type 0} (g : Ghosts D) (disk later : D) (o : Outcome) : Type 0 where
   pub begins : IsTrue o.opened → Begins (g.held disk) o.moment o.first
   pub returned : IsTrue o.opened → Returns (g.may_leave later) o
-  pub kept_up : IsTrue o.opened → o.last.machine.read_only ≡ None → ListsLast (g.may_leave later) o
+  pub kept_up : IsTrue o.opened → o.last.is_open ≡ true → o.last.store.machine.read_only ≡ None → ListsLast (g.may_leave later) o
   pub any_moment : Leaves (g.may_leave disk) (g.left_since later (g.moment disk)) o
   pub tidy : AreTidy (g.may_leave disk) → AreTidy (g.left_since later (g.moment disk))

@@ -131,6 +131,7 @@ goes_on g held_may_stay disk core h unsure moment told keeps opened = by_unsure 
         let m = opened.stands told x stands in record {
           machine = m.0;
           stands = m.1;
+          stored = subst (ImageStandsFor (g.held disk)) (sym m.2) stands;
           history = subst (MayHaveAdded u h) (sym m.2) added;
           begins = m.3;
           sure = m.1.stands.sure (sym m.1.stands.has.read_only ∙ m.3.writes);
