@@ -1,5 +1,5 @@
--- Private mechanism of an ingest: its duties, and what is due of them. What an ingest asks stands in `Ingest.antt`, and a law says that
--- whoever follows these duties asks that. No clause on a run cites this file.
+-- Mechanism of an ingest: its duties, and what is due of them. What an ingest asks stands in `Ingest.antt`, and a law says that whoever
+-- follows these duties asks that. Laws on ingests and the functions that ingest cite this file; what a run does (`Runs.antt`) doesn't.
 use Rattle.std.specs.Prelude.{◌≡◌, ◌⊎◌, ⊤, ℕ, ◌-◌, ◌==◌, Bool, nat_le, if◌then◌else◌, List, [], ◌∷◌, Option, Ok}
 use Rattle.session_text.specs.declared.reply.Reply.{Reply}
 use Rattle.session_text.specs.declared.request.Request.{Request}

@@ -112,7 +112,8 @@ pub fn a_store_answers_as_the_history_says<D: Device>(old: &Store<D>, new: &Stor
     ensures shown { (acts : List Act) (replies : List Reply) (first : Place)
         → AreDoneOver D.Device.own old.now acts replies new.now
         → IsShownAt D.Device.own old.now first
-        → (last : Place) × IsShownAt D.Device.own new.now last × AreDone false first acts replies last }
+        → (last : Place) × IsShownAt D.Device.own new.now last
+        × AreDone false first acts replies last }
     // Where its disk shows its bytes, and what it stores was kept since an earlier disk: then that is kept still.
     ensures kept { (acts : List Act) (replies : List Reply) (first : Place) (start : D) (least : ℕ)
         → AreDoneOver D.Device.own old.now acts replies new.now
@@ -444,11 +445,10 @@ pub fn upkeep_stands_on_the_disk<D: Device>(old: &Core<D>, new: &Core<D>)
 
 /// What the upkeep of a run left is there as the next one begins.
 pub fn the_next_run_begins_as_listed<D: Device>(begun: &D, left: &D, disk: &D, later: &D)
-    // A store that is opened on an image that lists a state begins with its blocks, segments and floor, and with the
-    // log's rows from the floor on.
-    ensures begins { (image : Image) (u : State) (h : History) (moment : ℕ) (m : Machine)
-        → ListsState image u
-        → ImageStandsFor image h → BeginsAs image moment m → BeginsListed image u moment m.state }
+    // A store that is opened on an image that lists a state begins with its blocks, segments and floor. It gives out no
+    // later file than that state would, each row that waited is live, and no live row has a key that the state hadn't.
+    ensures begins { (image : Image) (u : State) (moment : ℕ) (m : Machine) → ListsState image u
+        → BeginsAs image moment m → BeginsListed image u moment m.state }
     // So does the next run on what an earlier one left that wrote to its end.
     ensures next_run { (one next : Outcome) → Recovers D.Device.own begun.now left.now one
         → Recovers D.Device.own disk.now later.now next → IsTrue one.opened → IsTrue next.opened
