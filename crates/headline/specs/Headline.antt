@@ -1,7 +1,7 @@
 -- The headline, by histories alone: what each reply tells, how the history grows, and what the disk keeps of it. No machine,
 -- no memory and no block is named here. A history is what was stored at first and the pushes that were accepted since, in order.
 -- What is kept besides says which pushes aren't sure, since the disk failed, and whether the store is open.
-use Rattle.std.specs.Prelude.{◌≡◌, ◌⊎◌, ⊤, ◌≤◌, ℕ, true, false, List, [], ◌∷◌, length, Ok, Err}
+use Rattle.std.specs.Prelude.{◌≡◌, ◌⊎◌, ⊤, ◌≤◌, true, false, List, [], ◌∷◌, length, Ok, Err}
 use Rattle.disk_model.specs.Crash.{Reached}
 use Rattle.disk_model.specs.Images.{Image}
 use Rattle.disk_model.specs.declared.disk.Device.{Ghosts}

@@ -1,9 +1,8 @@
 -- What is done in a session over reopenings, from what is done in between.
-use Rattle.std.proofs.Common.{Bool, true, false, ◌≡◌, ◌⊎◌, inl, inr, ℕ, ◌+◌, ◌==◌, List, [], ◌∷◌, ◌++◌, Option, None, Some, length, map, arith, refl, sym, ◌∙◌, ap, subst, if◌then◌else◌}
+use Rattle.std.proofs.Common.{Bool, true, false, ◌≡◌, inl, inr, ℕ, ◌+◌, ◌==◌, List, [], ◌∷◌, ◌++◌, Option, None, Some, map, arith, refl, sym, ◌∙◌, ap, subst, if◌then◌else◌}
 use Rattle.std.specs.List.{list_any}
 use Rattle.disk_model.specs.Counts.{RoseBy}
 use Rattle.disk_model.specs.Images.{Image}
-use Rattle.session_text.specs.declared.refusal.Refusal.TheVariants.{Closed}
 use Rattle.session_text.specs.declared.reply.Reply.{Reply}
 use Rattle.session_text.specs.declared.reply.Reply.TheVariants.{Refused, Reopened}
 use Rattle.session_text.specs.Items.{Item}
@@ -21,7 +20,7 @@ use Rattle.session_meaning.specs.Causes.{act_blames_disk, disk_faults, faults_in
 use Rattle.session_meaning.specs.Done.{AreDone, IsDone}
 use Rattle.session_meaning.specs.Kept.{Kept, begun_with, found_again, kept_after, kept_after_all, kept_at, were_unsure}
 use Rattle.session_meaning.specs.Place.{Place, ever_unsure, history_at, opened_at}
-use Rattle.session_meaning.specs.Pushes.{accepted_entry, unsure_after_line, unsure_entry}
+use Rattle.session_meaning.specs.Pushes.{unsure_after_line, unsure_entry}
 use Rattle.session_meaning.specs.Runs.{Outcome}
 use Rattle.session_meaning.specs.Session.{Session}
 use Rattle.session_meaning.specs.Stops.{StandsForLast, StandsWithin}

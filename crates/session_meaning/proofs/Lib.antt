@@ -17,6 +17,7 @@ pub mod SessionLaws
 pub mod Told
 mod PushCauses
 mod Room
+mod LineRoom
 mod ReadOnly
 mod FaultLaws
 pub mod Acts

@@ -12,7 +12,7 @@ use Rattle.store_model.specs.State.{block_files, held_of, is_among}
 use Rattle.store_state.specs.declared.rounds.Refusal.{Refusal as Cause}
 use Rattle.store_state.specs.declared.rounds.Refusal.TheVariants as cause
 use Rattle.session_meaning.specs.Act.{Act}
-use Rattle.session_meaning.specs.Act.Act.{Ask, Reopen, Unread}
+use Rattle.session_meaning.specs.Act.Act.{Ask}
 use Rattle.session_meaning.specs.At.{At, history_of}
 
 -- The refusal is the text `disk-fault`: a call of the disk failed.

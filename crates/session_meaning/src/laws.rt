@@ -59,15 +59,15 @@ ghost use Rattle.session_meaning.specs.Place.{Place, opened_at};
 ghost use Rattle.session_meaning.specs.Rounds.{HasJoined, HasListed, IsCompacted, IsDoneOrStarved, IsFlushed, IsRound};
 ghost use Rattle.session_meaning.specs.declared.ending.Ending.TheVariants.{Answered, NotOpened, Starved};
 ghost use Rattle.session_meaning.specs.Progress.{AreAnsweredOver, FollowsOver};
-ghost use Rattle.session_meaning.specs.Pushes.{HasRoomFor, HasRoomForPush, accepted_entries, known_pushes};
+ghost use Rattle.session_meaning.specs.Pushes.{HasRoomFor, HasRoomForPush, HasRoomNow, accepted_entries, known_pushes};
 ghost use Rattle.session_meaning.specs.Runs.{ComesToItsEnd, Edges, GoesWell, IsRunOf, Outcome, TellsAll};
 ghost use Rattle.session_meaning.specs.At.{At, IsStill, history_of};
 ghost use Rattle.session_meaning.specs.Duties.{Duty, Follows, duties, from_lines};
 ghost use Rattle.session_meaning.specs.Ingest.{AreJoined, Far, HasFinished, Ingests, Pushes, Stand};
 ghost use Rattle.session_meaning.specs.Ingest.Far.{stopped, whole};
-ghost use Rattle.session_meaning.specs.Session.{IsAnswered, IsAnsweredOrRefused, IsFound, IsFoundSeen, IsSure, IsTraceIn, IsTraceSeen, Session, is_refused};
+ghost use Rattle.session_meaning.specs.Session.{IsAnswered, IsAnsweredOrRefused, IsFound, IsFoundSeen, IsSure, IsTraceIn, IsTraceSeen, Session, is_refusal, is_refused};
 ghost use Rattle.session_meaning.specs.Stops.{AreTidy, BeginsListed, Recovers, StandsForLast, StandsWithin};
-ghost use Rattle.session_meaning.specs.Upkeep.{HasEmptied, HasFailedSince, IsClosed};
+ghost use Rattle.session_meaning.specs.Upkeep.{HasEmptied, HasFailedSince, HasNoJob, IsClosed};
 
 use disk_model::Device;
 use store_core::Core;
@@ -311,6 +311,32 @@ pub fn comes_to_an_end()
         → (before : List ℕ) → old.taken ≡ Some before
         → (items : List Item) → o.acts ≡ map Ask items → list_any is_refused items ≡ false
         → HasRoomFor items o.first.machine → (o.ending ≡ Answered) ⊎ (o.ending ≡ Starved) }
+{}
+
+/// What is asked of a store that has room for it is refused for no cause but memory, or its own words: whatever was
+/// asked before, so also late in a long session or ingest. What the blocks hold is told.
+pub fn what_has_room_is_done()
+    // Of a store that writes and has no job open, where no call of the disk fails.
+    ensures one { (item : Item) (before after : At) (reply : Reply)
+        → IsAnsweredOrRefused true item before reply after → (Rose before.faults after.faults → ⊥)
+        → before.machine.read_only ≡ None → HasNoJob before.machine
+        → HasRoomNow item before.machine → is_refusal reply ≡ is_refused item }
+    // Each line, at its own place: from such a store on, over reopenings, as long as no call fails.
+    ensures each { (front back : List Act) (item : Item) (earlier later : List Reply)
+        (reply : Reply) (first last : Place) → length front ≡ length earlier
+        → AreDone true first (front ++ Ask item ∷ back) (earlier ++ reply ∷ later) last
+        → (Rose first.store.faults last.store.faults → ⊥)
+        → first.store.machine.read_only ≡ None → HasNoJob first.store.machine
+        → (at : Place) × AreDone true first front earlier at × (at.is_open ≡ true)
+        × (HasRoomNow item at.store.machine → is_refusal reply ≡ is_refused item) }
+    // So of each line of a run in which no call failed.
+    ensures of_runs { (words : List (List ℕ)) (c : Command) (o : Outcome) (old new : Edges)
+        → Spells words c → IsRunOf true words o old new → GoesWell c old new
+        → (front back : List Act) (item : Item) (earlier later : List Reply) (reply : Reply)
+        → o.acts ≡ front ++ Ask item ∷ back → o.replies ≡ earlier ++ reply ∷ later
+        → length front ≡ length earlier
+        → (at : Place) × AreDone true (opened_at o.first) front earlier at × (at.is_open ≡ true)
+        × (HasRoomNow item at.store.machine → is_refusal reply ≡ is_refused item) }
 {}
 
 /// What an ingest asks is asked and answered as in a session, so all that is said of sessions is said of it.

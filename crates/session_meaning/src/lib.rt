@@ -18,5 +18,5 @@ pub use laws::{
     each_disk_fault_is_counted, flushes_have_their_causes, pushes_have_their_causes,
     queries_tell_what_they_see, reclaims_have_their_causes, replies_tell_the_history,
     sessions_keep_the_store, the_next_run_begins_as_listed, upkeep_stands_on_the_disk,
-    what_is_asked_in_between_is_a_session, what_is_stored_is_a_base,
+    what_has_room_is_done, what_is_asked_in_between_is_a_session, what_is_stored_is_a_base,
 };
