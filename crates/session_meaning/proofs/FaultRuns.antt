@@ -31,7 +31,7 @@ use Rattle.session_meaning.specs.Act.Act.{Ask, Reopen, Unread}
 use Rattle.session_meaning.specs.Asked.{AreAsked, after_moment}
 use Rattle.session_meaning.specs.Causes.{act_blames_disk, blames_disk, disk_faults, is_disk_fault}
 use Rattle.session_meaning.specs.Ingest.{Asks, AsksLine, AtTheEnd, Compacts, Far, Ingests, KeptSmall, LinesPushed, Part, Pushes, Stand, Then}
-use Rattle.session_meaning.specs.Ingest.Far.{stopped, whole}
+use Rattle.session_meaning.specs.Ingest.Far.{so_far, whole}
 use Rattle.session_meaning.specs.Runs.{CameSoFar, DoesInStore, Edges, HasAnswered, HasIngested, HasRun, IsRunOf, Outcome, TellsAll}
 use Rattle.session_meaning.specs.Place.{opened_at}
 use Rattle.session_meaning.proofs.Acts.{acts_count}
@@ -180,7 +180,7 @@ joined_none (x ∷ xs) ys first later = go (blames_disk x) refl first (λ rest. 
     go false is rest more = add_none x (xs ++ ys) is (more rest)
 
 then_none : (one two : Part) → BlamesNone one → BlamesNone two → BlamesNone (Then one two)
-then_none one two first next before after items replies far (inl halt) = first before after items replies stopped halt.0
+then_none one two first next before after items replies far (inl halt) = first before after items replies so_far halt.0
 then_none one two first next before after items replies far (inr (mid, xs, ys, rs, ss, items_are, replies_are, done, rest)) =
     ap (list_any blames_disk) items_are ∙ joined_none xs ys (first before mid xs rs whole done) (next mid after ys ss far rest)
 
@@ -227,12 +227,12 @@ pushes_none sure lines before after items replies h =
 came_none : (sure : Bool) (e : Ending) (all pushed : List (List ℕ)) (before after : Stand) (items : List Item) (replies : List Reply) → CameSoFar sure e all pushed before items replies after
     → list_any blames_disk items ≡ false
 came_none sure Answered all pushed before after items replies h = ingest_none sure all before after items replies whole h
-came_none sure WriteFault all pushed before after items replies h = ingest_none sure all before after items replies stopped h
-came_none sure BadWords all pushed before after items replies h = ingest_none sure all before after items replies stopped h
+came_none sure WriteFault all pushed before after items replies h = ingest_none sure all before after items replies so_far h
+came_none sure BadWords all pushed before after items replies h = ingest_none sure all before after items replies so_far h
 came_none sure ReadFault all pushed before after items replies h = pushes_none sure pushed before after items replies h
-came_none sure NotOpened all pushed before after items replies h = ingest_none sure all before after items replies stopped h
-came_none sure (NotStore file at) all pushed before after items replies h = ingest_none sure all before after items replies stopped h
-came_none sure Starved all pushed before after items replies h = ingest_none sure all before after items replies stopped h
+came_none sure NotOpened all pushed before after items replies h = ingest_none sure all before after items replies so_far h
+came_none sure (NotStore file at) all pushed before after items replies h = ingest_none sure all before after items replies so_far h
+came_none sure Starved all pushed before after items replies h = ingest_none sure all before after items replies so_far h
 came_none sure Refused all pushed before after items replies h = ingest_none sure all before after items replies whole h
 came_none sure Spent all pushed before after items replies h = pushes_none sure pushed before after items replies h
 

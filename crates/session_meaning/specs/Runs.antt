@@ -26,7 +26,7 @@ use Rattle.session_meaning.specs.Asked.{AreAsked, AsksNext, IsNextMoment, after_
 use Rattle.session_meaning.specs.At.{At, history_of}
 use Rattle.session_meaning.specs.Done.{AreDone}
 use Rattle.session_meaning.specs.Ingest.{Ingests, Pushes, Stand}
-use Rattle.session_meaning.specs.Ingest.Far.{stopped, whole}
+use Rattle.session_meaning.specs.Ingest.Far.{so_far, whole}
 use Rattle.session_meaning.specs.Place.{Place, opened_at}
 use Rattle.session_meaning.specs.Session.{Ends, EndsAlone}
 
@@ -133,21 +133,21 @@ pub record HasRun (text before : List ℕ) (o : Outcome) (old new : Edges) : Typ
 -- its end and all replies were written; where the source failed, or a run takes no more bytes, so many lines were pushed and nothing was
 -- done for the end; and where the sink failed or memory ran out, it may have stopped anywhere.
 abbrev pub CameSoFar : Bool → Ending → List (List ℕ) → List (List ℕ) → Stand → List Item → List Reply → Stand → Type 0
-CameSoFar sure Answered all pushed before items replies after = Ingests sure all before items replies after whole
-CameSoFar sure Refused all pushed before items replies after = Ingests sure all before items replies after whole
-CameSoFar sure ReadFault all pushed before items replies after = Pushes sure pushed before items replies after
-CameSoFar sure Spent all pushed before items replies after = Pushes sure pushed before items replies after
-CameSoFar sure _ all pushed before items replies after = Ingests sure all before items replies after stopped
+CameSoFar told Answered all pushed before items replies after = Ingests told all before items replies after whole
+CameSoFar told Refused all pushed before items replies after = Ingests told all before items replies after whole
+CameSoFar told ReadFault all pushed before items replies after = Pushes told pushed before items replies after
+CameSoFar told Spent all pushed before items replies after = Pushes told pushed before items replies after
+CameSoFar told _ all pushed before items replies after = Ingests told all before items replies after so_far
 
 -- An ingest that read `text`: it was asked what an ingest asks, and the replies, and nothing else, stand written as the ending says.
 -- No pattern was made.
-pub record HasIngested (sure : Bool) (text before : List ℕ) (o : Outcome) (old new : Edges) : Type 0 where
+pub record HasIngested (told : Bool) (text before : List ℕ) (o : Outcome) (old new : Edges) : Type 0 where
   pub items : List Item
   pub acts_are : o.acts ≡ map Ask items
   pub pushed : List (List ℕ)
   pub later : List (List ℕ)
   pub lines_are : lines text ≡ pushed ++ later
-  pub asked : CameSoFar sure o.ending (lines text) pushed (record { store = o.first; moments = after_moment old.moments }) items o.replies
+  pub asked : CameSoFar told o.ending (lines text) pushed (record { store = o.first; moments = after_moment old.moments }) items o.replies
       (record { store = o.last.store; moments = new.moments })
   pub no_refused : o.refused ≡ []
   pub ends : Ends o.ending text later new.left before o.replies new.taken
@@ -176,18 +176,18 @@ NeedsNoSource ReadFault = ⊥
 NeedsNoSource Spent = ⊥
 NeedsNoSource _ = ⊤
 
--- In a store that was opened the command was done, as far as the source and the sink tell their bytes. `sure` says that what the
+-- In a store that was opened the command was done, as far as the source and the sink tell their bytes. `told` says that what the
 -- blocks of the store hold is told.
 abbrev pub DoesInStore : Bool → Command → Outcome → Edges → Edges → Type 0
-DoesInStore sure session o old new = IfSome old.left (λ text. IfSome old.taken (λ before. HasRun text before o old new))
-DoesInStore sure ingest o old new = IfSome old.left (λ text. IfSome old.taken (λ before. HasIngested sure text before o old new))
-DoesInStore sure (Alone line) o old new =
+DoesInStore told session o old new = IfSome old.left (λ text. IfSome old.taken (λ before. HasRun text before o old new))
+DoesInStore told ingest o old new = IfSome old.left (λ text. IfSome old.taken (λ before. HasIngested told text before o old new))
+DoesInStore told (Alone line) o old new =
     NeedsNoSource o.ending × IfSome old.taken (λ before. HasAnswered line before o old new)
 
 -- The store was opened and the command done; or it wasn't, and nothing was asked.
 abbrev pub Does : Bool → Command → Outcome → Edges → Edges → Type 0
-Does sure c o old new =
-    (IsTrue o.opened × HasOpened o old new × IsPastOpening o.ending × DoesInStore sure c o old new)
+Does told c o old new =
+    (IsTrue o.opened × HasOpened o old new × IsPastOpening o.ending × DoesInStore told c o old new)
     ⊎ ((o.opened ≡ false) × HasNotOpened o old new)
 
 -- ---- how a run may end

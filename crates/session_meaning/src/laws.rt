@@ -64,7 +64,7 @@ ghost use Rattle.session_meaning.specs.Runs.{ComesToItsEnd, Edges, GoesWell, IsR
 ghost use Rattle.session_meaning.specs.At.{At, IsStill, history_of};
 ghost use Rattle.session_meaning.specs.Duties.{Duty, Follows, duties, from_lines};
 ghost use Rattle.session_meaning.specs.Ingest.{AreJoined, Far, HasFinished, Ingests, Pushes, Stand};
-ghost use Rattle.session_meaning.specs.Ingest.Far.{stopped, whole};
+ghost use Rattle.session_meaning.specs.Ingest.Far.{so_far, whole};
 ghost use Rattle.session_meaning.specs.Session.{IsAnswered, IsAnsweredOrRefused, IsFound, IsFoundSeen, IsSure, IsTraceIn, IsTraceSeen, Session, is_refusal, is_refused};
 ghost use Rattle.session_meaning.specs.Stops.{AreTidy, BeginsListed, Recovers, StandsForLast, StandsWithin};
 ghost use Rattle.session_meaning.specs.Upkeep.{HasEmptied, HasFailedSince, HasNoJob, IsClosed};
@@ -137,49 +137,52 @@ pub fn what_is_asked_in_between_is_a_session()
 /// What is asked of a core by the duties of an ingest follows them: from a machine on that its memory shows, or for
 /// which it stands, as of a session.
 pub fn a_core_ingests_as_the_history_says<D: Device>(old: &Core<D>, new: &Core<D>)
-    ensures shown { (todo left : List Duty) (told to_tell : Option (List ℕ)) (items : List Item)
+    ensures shown { (todo left : List Duty) (moments moments_left : Option (List ℕ))
+        (items : List Item)
         (replies : List Reply)
-        → FollowsOver D.Device.own todo told old.now items replies new.now left to_tell
+        → FollowsOver D.Device.own todo moments old.now items replies new.now left moments_left
         → (m : Machine)
         → CoreShows D.Device.own old.now m
         → (later : Machine) × CoreShows D.Device.own new.now later
-        × Follows false todo told (at_core D.Device.own old.now m) items replies
-        (at_core D.Device.own new.now later) left to_tell }
-    ensures since { (todo left : List Duty) (told to_tell : Option (List ℕ)) (items : List Item)
+        × Follows false todo moments (at_core D.Device.own old.now m) items replies
+        (at_core D.Device.own new.now later) left moments_left }
+    ensures since { (todo left : List Duty) (moments moments_left : Option (List ℕ))
+        (items : List Item)
         (replies : List Reply)
-        → FollowsOver D.Device.own todo told old.now items replies new.now left to_tell
+        → FollowsOver D.Device.own todo moments old.now items replies new.now left moments_left
         → (m : Machine)
         → (start : D) (least : ℕ) → StandsSince D.Device.own start least old.now m
         → IsTrue (D.tells old.now.disk)
         → (later : Machine) × StandsSince D.Device.own start least new.now later
-        × Follows true todo told (at_core D.Device.own old.now m) items replies
-        (at_core D.Device.own new.now later) left to_tell }
+        × Follows true todo moments (at_core D.Device.own old.now m) items replies
+        (at_core D.Device.own new.now later) left moments_left }
 {}
 
 /// Whoever follows the duties of an ingest asks what an ingest asks.
 pub fn duties_make_an_ingest()
     // As far as it came.
-    ensures stops { (sure : Bool) (source : List (List ℕ)) (told to_tell : Option (List ℕ))
+    ensures stops { (told : Bool) (source : List (List ℕ)) (moments moments_left : Option (List ℕ))
         (left : List Duty) (items : List Item)
         → (replies : List Reply) (first last : At)
-        → Follows sure (duties source) told first items replies last left to_tell
-        → Ingests sure source (record { store = first; moments = told }) items replies
-        (record { store = last; moments = to_tell }) stopped }
+        → Follows told (duties source) moments first items replies last left moments_left
+        → Ingests told source (record { store = first; moments = moments }) items replies
+        (record { store = last; moments = moments_left }) so_far }
     // With nothing left, to its end.
-    ensures ends { (sure : Bool) (source : List (List ℕ)) (told to_tell : Option (List ℕ))
+    ensures ends { (told : Bool) (source : List (List ℕ)) (moments moments_left : Option (List ℕ))
         (items : List Item)
         → (replies : List Reply) (first last : At)
-        → Follows sure (duties source) told first items replies last [] to_tell
-        → Ingests sure source (record { store = first; moments = told }) items replies
-        (record { store = last; moments = to_tell }) whole }
+        → Follows told (duties source) moments first items replies last [] moments_left
+        → Ingests told source (record { store = first; moments = moments }) items replies
+        (record { store = last; moments = moments_left }) whole }
     // With these lines left, and what is to do at the end, it pushed the lines before them.
-    ensures reads { (sure : Bool) (pushed later : List (List ℕ)) (told to_tell : Option (List ℕ))
+    ensures reads { (told : Bool) (pushed later : List (List ℕ))
+        (moments moments_left : Option (List ℕ))
         (items : List Item)
         → (replies : List Reply) (first last : At)
-        → Follows sure (duties (pushed ++ later)) told first items replies last
-        (from_lines later) to_tell
-        → Pushes sure pushed (record { store = first; moments = told }) items replies
-        (record { store = last; moments = to_tell }) }
+        → Follows told (duties (pushed ++ later)) moments first items replies last
+        (from_lines later) moments_left
+        → Pushes told pushed (record { store = first; moments = moments }) items replies
+        (record { store = last; moments = moments_left }) }
 {}
 
 /// A session keeps that the rows of the store are those of its history, and leaves no job open while the store writes.
@@ -341,27 +344,27 @@ pub fn what_has_room_is_done()
 
 /// What an ingest asks is asked and answered as in a session, so all that is said of sessions is said of it.
 pub fn an_ingest_is_a_session()
-    ensures as_far { (sure : Bool) (source : List (List ℕ)) (before after : Stand)
+    ensures as_far { (told : Bool) (source : List (List ℕ)) (before after : Stand)
         (items : List Item) (replies : List Reply)
-        → (far : Far) → Ingests sure source before items replies after far
-        → Session sure before.store items replies after.store }
-    ensures lines { (sure : Bool) (source : List (List ℕ)) (before after : Stand)
+        → (far : Far) → Ingests told source before items replies after far
+        → Session told before.store items replies after.store }
+    ensures lines { (told : Bool) (source : List (List ℕ)) (before after : Stand)
         (items : List Item) (replies : List Reply)
-        → Pushes sure source before items replies after
-        → Session sure before.store items replies after.store }
-    ensures duties { (sure : Bool) (todo left : List Duty) (told to_tell : Option (List ℕ))
+        → Pushes told source before items replies after
+        → Session told before.store items replies after.store }
+    ensures duties { (told : Bool) (todo left : List Duty) (moments moments_left : Option (List ℕ))
         (items : List Item)
         → (replies : List Reply) (first last : At)
-        → Follows sure todo told first items replies last left to_tell
-        → Session sure first items replies last }
+        → Follows told todo moments first items replies last left moments_left
+        → Session told first items replies last }
 {}
 
 /// An ingest that came to its end has cut and flushed there, has compacted until a compaction joined no blocks, and then
 /// emptied loose files.
 pub fn an_ingest_finishes()
-    ensures { (sure : Bool) (source : List (List ℕ)) (before after : Stand) (items : List Item)
+    ensures { (told : Bool) (source : List (List ℕ)) (before after : Stand) (items : List Item)
         (replies : List Reply)
-        → Ingests sure source before items replies after whole → HasFinished items replies }
+        → Ingests told source before items replies after whole → HasFinished items replies }
 {}
 
 /// What a flush makes of the store.
