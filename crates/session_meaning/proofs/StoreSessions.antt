@@ -1,11 +1,12 @@
 -- What is done over a store that is open or closed is what a session means.
-use Rattle.std.proofs.Common.{◌≡◌, ◌≢◌, inl, inr, ℕ, ◌≤◌, Bool, true, false, List, [], ◌∷◌, ◌++◌, Option, None, Some, Result, Ok, Err, IsTrue, map, refl, sym, ◌∙◌, ap, subst}
+use Rattle.std.proofs.Common.{◌≡◌, ◌≢◌, ⊤, inl, inr, ℕ, ◌≤◌, Bool, true, false, List, [], ◌∷◌, ◌++◌, Option, None, Some, Result, Ok, Err, IsTrue, map, refl, sym, ◌∙◌, ap, subst}
 use Rattle.disk_model.specs.Counts.{Raised}
 use Rattle.disk_model.specs.Crash.{LeavesOnly, Reached}
 use Rattle.disk_model.specs.Images.{Image}
 use Rattle.disk_model.proofs.Moments.{joined, started, widened}
 use Rattle.disk_model.specs.declared.disk.Device.{Ghosts}
 use Rattle.session_text.specs.declared.reply.Reply.{Reply}
+use Rattle.session_text.specs.declared.reply.Reply.TheVariants.{Refused, Reopened}
 use Rattle.session_text.specs.Items.{Item}
 use Rattle.store_entries.specs.declared.entry.Entry.{Entry}
 use Rattle.store_images.specs.Stored.{ImageStandsFor, ImageStores, IsSoundImage, IsTidy, KeepsStored, MayStandFor}
@@ -25,12 +26,12 @@ use Rattle.store_reopen.specs.Reopened.{Reopens, disk_of}
 use Rattle.store_reopen.specs.Through.{GoesOn, KeepsThrough}
 use Rattle.store_reopen.specs.declared.store.Store.{Store}
 use Rattle.store_reopen.specs.declared.store.Store.TheVariants.{Closed, Open}
-use Rattle.store_reopen.proofs.Through.{goes_on, opened_again, still_closed}
+use Rattle.store_reopen.proofs.Through.{goes_on, keeps_from_then, opened_again, still_closed}
 use Rattle.session_meaning.specs.Act.{Act}
 use Rattle.session_meaning.specs.Act.Act.{Ask, Reopen, Unread}
 use Rattle.session_meaning.specs.Answering.{at_core}
 use Rattle.session_meaning.specs.At.{At}
-use Rattle.session_meaning.specs.Done.{AreDone, IsDone, IsReopened}
+use Rattle.session_meaning.specs.Done.{AreDone, AreDoneAmong, IsDone, IsDoneAmong, IsReopened}
 use Rattle.session_meaning.specs.Listed.{ListsState}
 use Rattle.session_meaning.specs.Over.{AreDoneOver, IsDoneOver, IsKeptAt, IsShownAt, StandsForPlace, reopened_reply}
 use Rattle.session_meaning.specs.Place.{Place, ever_unsure, history_at}
@@ -68,12 +69,12 @@ begins_empty image h moment m stands begins = by_stores (count_of h) stands.stor
 abbrev closed_at : Place → ℕ → Place
 closed_at first faults = record first { store = record { machine = first.store.machine; faults = faults }; is_open = false }
 
-refused_is : (told : Bool) (moment : ℕ) (why : OpenError) (first : Place) (faults : ℕ) → first.store.faults ≤ faults → (why ≢ Fault → faults ≡ first.store.faults)
+refused_is : (left : Image → Type 0) (told : Bool) (moment : ℕ) (why : OpenError) (first : Place) (faults : ℕ) → first.store.faults ≤ faults → (why ≢ Fault → faults ≡ first.store.faults)
     → (why ≡ Fault → Raised first.store.faults faults) → ((file at : ℕ) → why ≡ NotStore file at → told ≡ false)
-    → IsReopened told moment first (reopened_reply (Err why)) (closed_at first faults)
-refused_is told moment Fault first faults later quiet rose no_store = (tt, (refl, later, rose refl), refl)
-refused_is told moment (NotStore file at) first faults later quiet rose no_store = (no_store file at refl, (refl, later, quiet (λ e. let bad : ⊥ = cc in bad)), refl)
-refused_is told moment Memory first faults later quiet rose no_store = (tt, (refl, later, quiet (λ e. let bad : ⊥ = cc in bad)), refl)
+    → IsReopened told left moment first (reopened_reply (Err why)) (closed_at first faults)
+refused_is left told moment Fault first faults later quiet rose no_store = (tt, (refl, later, rose refl), refl)
+refused_is left told moment (NotStore file at) first faults later quiet rose no_store = (no_store file at refl, (refl, later, quiet (λ e. let bad : ⊥ = cc in bad)), refl)
+refused_is left told moment Memory first faults later quiet rose no_store = (tt, (refl, later, quiet (λ e. let bad : ⊥ = cc in bad)), refl)
 
 ok_no_fault : (entries : ℕ) → (the : Result ℕ OpenError) → the ≡ Ok entries → the ≢ Err Fault
 ok_no_fault entries the is e = let bad : ⊥ = cc in bad
@@ -85,7 +86,7 @@ err_is why the is e = cc
 
 module _ {D : Type 0} (g : Ghosts D) where
   reopened_shown : (moment : ℕ) (old new : Store D) (first : Place) (result : Result ℕ OpenError) → Reopens g (disk_of old) moment new result → IsShownAt g old first
-      → (last : Place) × IsShownAt g new last × IsReopened false moment first (reopened_reply result) last
+      → (last : Place) × IsShownAt g new last × IsReopened false (λ image. ⊤) moment first (reopened_reply result) last
   reopened_shown moment old new first (Ok entries) again shown =
       let opened = again.opened in
       let core = opened.0 in
@@ -112,7 +113,7 @@ module _ {D : Type 0} (g : Ghosts D) where
       let counts = subst (λ (x : Store D). Reopens g (disk_of old) moment x (Err why)) again.closed.1 again in (
         closed_at first (g.faults later),
         subst (λ (x : Store D). IsShownAt g x (closed_at first (g.faults later))) (sym again.closed.1) (record { faults = refl; shows = refl }),
-        refused_is false moment why first (g.faults later)
+        refused_is (λ image. ⊤) false moment why first (g.faults later)
             (subst (λ (n : ℕ). n ≤ g.faults later) (sym before) counts.counts.later)
             (λ not. counts.counts.quiet (λ e. not (err_is why (Err why) refl e)) ∙ sym before)
             (λ is. subst (λ (n : ℕ). Raised n (g.faults later)) (sym before) (counts.counts.fault (ap Err is)))
@@ -131,7 +132,7 @@ module _ {D : Type 0} (g : Ghosts D) where
   done_shown (Ask item) (Closed disk) new reply first bad shown = absurd bad
   done_shown (Reopen moment) old new reply first (result, is, again) shown =
       let all = reopened_shown moment old new first result again shown in
-      (all.0, all.1, subst (λ (r : Reply). IsReopened false moment first r all.0) (sym is) all.2)
+      (all.0, all.1, subst (λ (r : Reply). IsReopened false (λ image. ⊤) moment first r all.0) (sym is) all.2)
   done_shown Unread (Open core) new reply first bad shown = absurd bad
   done_shown Unread (Closed disk) new reply first (told, is) shown =
       (first, subst (λ (x : Store D). IsShownAt g x first) (sym is) shown, (shown.shows, told, refl))
@@ -159,9 +160,10 @@ module _ {D : Type 0} (g : Ghosts D) where
   store_lists (Closed disk) place stands tells is_open writes = let bad : ⊥ = cc in absurd bad
 
   module _ (held_may_stay : (disk : D) → IsTrue (g.tells disk) → g.may_leave disk (g.held disk)) (start : D) (least : ℕ) where
-    reopened_kept : (moment : ℕ) (old new : Store D) (first : Place) (result : Result ℕ OpenError) → Reopens g (disk_of old) moment new result → IsKeptAt g start least old first
-        → IsTrue (g.tells (disk_of old)) → (last : Place) × IsKeptAt g start least new last × IsReopened true moment first (reopened_reply result) last
-    reopened_kept moment old new first (Ok entries) again kept tells =
+    reopened_kept : (left : Image → Type 0) (moment : ℕ) (old new : Store D) (first : Place) (result : Result ℕ OpenError) → left (g.held (disk_of old))
+        → Reopens g (disk_of old) moment new result → IsKeptAt g start least old first
+        → IsTrue (g.tells (disk_of old)) → (last : Place) × IsKeptAt g start least new last × IsReopened true left moment first (reopened_reply result) last
+    reopened_kept left moment old new first (Ok entries) may again kept tells =
         let opened = again.opened in
         let core = opened.0 in
         let disk = disk_of old in
@@ -186,6 +188,7 @@ module _ {D : Type 0} (g : Ghosts D) where
               found = λ told. record {
                 history = on.history;
                 image = g.held disk;
+                possible = may;
                 stands = on.stored;
                 begins = on.begins;
                 listed = λ is_open writes. store_lists old first kept.stands tells is_open writes (g.held disk) (held_may_stay disk tells);
@@ -194,7 +197,7 @@ module _ {D : Type 0} (g : Ghosts D) where
             refl,
           ),
         )
-    reopened_kept moment old new first (Err why) again kept tells =
+    reopened_kept left moment old new first (Err why) may again kept tells =
         let later = again.closed.0 in
         let disk = disk_of old in
         let before : first.store.faults ≡ g.faults disk = ap (λ (at : At). at.faults) kept.faults in
@@ -206,16 +209,17 @@ module _ {D : Type 0} (g : Ghosts D) where
             stands = refl;
             keeps = still_closed g start disk later least first.pending (history_at first) first.unsure kept.keeps so.counts.telling so.kept;
           }),
-          refused_is true moment why first (g.faults later)
+          refused_is left true moment why first (g.faults later)
               (subst (λ (n : ℕ). n ≤ g.faults later) (sym before) so.counts.later)
               (λ not. so.counts.quiet (λ e. not (err_is why (Err why) refl e)) ∙ sym before)
               (λ is. subst (λ (n : ℕ). Raised n (g.faults later)) (sym before) (so.counts.fault (ap Err is)))
               (λ file at is. absurd (so.sound tells (sound_of (history_at first) first.unsure (g.held disk) (kept.keeps.now tells (g.held disk) (held_may_stay disk tells))) file at is)),
         )
 
-    done_kept : (act : Act) (old new : Store D) (reply : Reply) (first : Place) → IsDoneOver g act old reply new → IsKeptAt g start least old first → IsTrue (g.tells (disk_of old))
-        → (last : Place) × IsKeptAt g start least new last × IsTrue (g.tells (disk_of new)) × IsDone true act first reply last
-    done_kept (Ask item) (Open core) new reply first (later, is, one) kept tells =
+    done_kept : (left : Image → Type 0) (act : Act) (old new : Store D) (reply : Reply) (first : Place) → left (g.held (disk_of old))
+        → IsDoneOver g act old reply new → IsKeptAt g start least old first → IsTrue (g.tells (disk_of old))
+        → (last : Place) × IsKeptAt g start least new last × IsTrue (g.tells (disk_of new)) × IsDoneAmong left true act first reply last
+    done_kept left (Ask item) (Open core) new reply first may (later, is, one) kept tells =
         let stands = kept.stands.2 in
         let s = one_through g start least first.pending core later first.store.machine item reply
         (stands, tells, subst (λ (u : Option Entry). KeepsThrough g start least first.pending core.disk (history_at first) u) kept.stands.1 kept.keeps) one.is in
@@ -231,30 +235,38 @@ module _ {D : Type 0} (g : Ghosts D) where
           subst (λ (x : Store D). IsTrue (g.tells (disk_of x))) (sym is) s.1.1,
           (kept.stands.0, subst (λ (at : At). IsAnsweredOrRefused true item at reply last.store) (sym kept.faults) s.2, refl),
         )
-    done_kept (Ask item) (Closed disk) new reply first bad kept tells = absurd bad
-    done_kept (Reopen moment) old new reply first (result, is, again) kept tells =
-        let all = reopened_kept moment old new first result again kept tells in (
+    done_kept left (Ask item) (Closed disk) new reply first may bad kept tells = absurd bad
+    done_kept left (Reopen moment) old new reply first may (result, is, again) kept tells =
+        let all = reopened_kept left moment old new first result may again kept tells in (
           all.0,
           all.1,
           subst IsTrue (sym again.counts.telling) tells,
-          subst (λ (r : Reply). IsReopened true moment first r all.0) (sym is) all.2,
+          subst (λ (r : Reply). IsReopened true left moment first r all.0) (sym is) all.2,
         )
-    done_kept Unread (Open core) new reply first bad kept tells = absurd bad
-    done_kept Unread (Closed disk) new reply first (told, is) kept tells = (
+    done_kept left Unread (Open core) new reply first may bad kept tells = absurd bad
+    done_kept left Unread (Closed disk) new reply first may (told, is) kept tells = (
       first,
       subst (λ (x : Store D). IsKeptAt g start least x first) (sym is) kept,
       subst (λ (x : Store D). IsTrue (g.tells (disk_of x))) (sym is) tells,
       (kept.stands, told, refl),
     )
 
+    -- at each line, where what the disk holds then is one of these images
+    pub acts_among : (left : Image → Type 0) (acts : List Act) (replies : List Reply) (old new : Store D) (first : Place)
+        → ((store : Store D) (rest : List Act) (later : List Reply) (place : Place) → AreDoneOver g store rest later new → IsKeptAt g start least store place
+        → IsTrue (g.tells (disk_of store)) → left (g.held (disk_of store)))
+        → AreDoneOver g old acts replies new → IsKeptAt g start least old first
+        → IsTrue (g.tells (disk_of old)) → (last : Place) × IsKeptAt g start least new last × AreDoneAmong left first acts replies last
+    acts_among left [] replies old new first may h kept tells = (first, subst (λ (x : Store D). IsKeptAt g start least x first) (sym h.1) kept, (h.0, refl))
+    acts_among left (a ∷ more) [] old new first may h kept tells = absurd h
+    acts_among left (a ∷ more) (r ∷ rs) old new first may (between, here, later) kept tells =
+        let one = done_kept left a old between r first (may old (a ∷ more) (r ∷ rs) first (between, here, later) kept tells) here kept tells in
+        let rest = acts_among left more rs between new one.0 may later one.1 one.2 in
+        (rest.0, rest.1, (one.0, one.3, rest.2))
+
     pub acts_kept : (acts : List Act) (replies : List Reply) (old new : Store D) (first : Place) → AreDoneOver g old acts replies new → IsKeptAt g start least old first
         → IsTrue (g.tells (disk_of old)) → (last : Place) × IsKeptAt g start least new last × AreDone true first acts replies last
-    acts_kept [] replies old new first h kept tells = (first, subst (λ (x : Store D). IsKeptAt g start least x first) (sym h.1) kept, (h.0, refl))
-    acts_kept (a ∷ more) [] old new first h kept tells = absurd h
-    acts_kept (a ∷ more) (r ∷ rs) old new first (between, here, later) kept tells =
-        let one = done_kept a old between r first here kept tells in
-        let rest = acts_kept more rs between new one.0 later one.1 one.2 in
-        (rest.0, rest.1, (one.0, one.3, rest.2))
+    acts_kept acts replies old new first h kept tells = acts_among (λ image. ⊤) acts replies old new first (λ store rest later place over at shows. tt) h kept tells
 
     -- ---- tidiness
 
@@ -284,7 +296,7 @@ module _ {D : Type 0} (g : Ghosts D) where
           (started g.moment g.left_since (disk_of old) IsTidy (λ image left. tidy image (only_now (disk_of old) image left)))
       acts_tidy (a ∷ more) [] old new first h kept tells tidy = absurd h
       acts_tidy (a ∷ more) (r ∷ rs) old new first (between, here, later) kept tells tidy =
-          let one = done_kept a old between r first here kept tells in
+          let one = done_kept (λ image. ⊤) a old between r first tt here kept tells in
           let left = done_tidy a old between r first here kept tells tidy in
           joined g.moment g.left_since (disk_of old) (disk_of between) (disk_of new) IsTidy left
           (acts_tidy more rs between new one.0 later one.1 one.2
@@ -323,3 +335,75 @@ pub over_tells : {D : Type 0} (g : Ghosts D) (acts : List Act) (replies : List R
 over_tells {D} g [] replies old new h tells = subst (λ (x : Store D). IsTrue (g.tells (disk_of x))) (sym h.1) tells
 over_tells g (a ∷ more) [] old new h tells = absurd h
 over_tells g (a ∷ more) (r ∷ rs) old new (between, here, later) tells = over_tells g more rs between new later (one_tells g a old between r here tells)
+
+-- ---- what the disk held before a line
+
+module _ {D : Type 0} (g : Ghosts D) (held_may_stay : (disk : D) → IsTrue (g.tells disk) → g.may_leave disk (g.held disk))
+    (counts_now : (disk : D) (start : ℕ) (image : Image) → start ≤ g.moment disk → g.may_leave disk image → g.left_since disk start image)
+    (only_now : (disk : D) (image : Image) → g.left_since disk (g.moment disk) image → g.may_leave disk image) (start : D) (least : ℕ) where
+  stands_alone : (store : Store D) (place : Place) → StandsForPlace g store place → StandsForPlace g store (record place { pending = [] })
+  stands_alone (Open core) place stands = stands
+  stands_alone (Closed disk) place stands = stands
+
+  -- A store that is kept at a place since the start is so since then.
+  kept_from_then : (store : Store D) (place : Place) → IsKeptAt g start least store place
+      → IsKeptAt g (disk_of store) (count_of (history_at place)) store (record place { pending = [] })
+  kept_from_then store place kept = record {
+    faults = kept.faults;
+    stands = stands_alone store place kept.stands;
+    keeps = keeps_from_then g only_now (disk_of store) (history_at place) place.unsure kept.keeps.now;
+  }
+
+  -- Before each line the disk holds what a crash might have left since the start, as it can be told after the last line.
+  pub held_among : (new store : Store D) (rest : List Act) (later : List Reply) (place : Place) → AreDoneOver g store rest later new → IsKeptAt g start least store place
+      → IsTrue (g.tells (disk_of store)) → g.left_since (disk_of new) (g.moment start) (g.held (disk_of store))
+  held_among new store rest later place over kept tells =
+      let disk = disk_of store in
+      let le = (kept.keeps.past tells).later in
+      let ended = acts_kept g held_may_stay disk (count_of (history_at place)) rest later store new (record place { pending = [] }) over
+      (kept_from_then store place kept) tells in
+      (ended.1.keeps.past (over_tells g rest later store new over tells)).keeps (g.moment start) (g.held disk) le
+      (counts_now disk (g.moment start) (g.held disk) le (held_may_stay disk tells))
+
+  -- So what is done over a store from the start on is done so that each opening finds an image that a crash may have left since then.
+  pub acts_left : (acts : List Act) (replies : List Reply) (old new : Store D) (first : Place) → AreDoneOver g old acts replies new → IsKeptAt g start least old first
+      → IsTrue (g.tells (disk_of old))
+      → (last : Place) × IsKeptAt g start least new last × AreDoneAmong (g.left_since (disk_of new) (g.moment start)) first acts replies last
+  acts_left acts replies old new first over kept tells =
+      acts_among g held_may_stay start least (g.left_since (disk_of new) (g.moment start)) acts replies old new first (held_among new) over kept tells
+
+-- ---- whichever image it finds
+
+reopened_any : (left : Image → Type 0) (moment : ℕ) (before after : Place) (reply : Reply) → IsReopened true left moment before reply after
+    → IsReopened true (λ image. ⊤) moment before reply after
+reopened_any left moment before after (Reopened entries) (opened, is) = (
+  record {
+    count = opened.count;
+    few = opened.few;
+    faults = opened.faults;
+    begins = opened.begins;
+    agrees = opened.agrees;
+    found = λ told. let f = opened.found told in record { history = f.history; image = f.image; possible = tt; stands = f.stands; begins = f.begins; listed = f.listed };
+  },
+  is,
+)
+reopened_any left moment before after (Refused why) h = h
+reopened_any left moment before after _ h = absurd h
+
+done_any : (left : Image → Type 0) (act : Act) (before after : Place) (reply : Reply) → IsDoneAmong left true act before reply after → IsDone true act before reply after
+done_any left (Ask item) before after reply h = h
+done_any left (Reopen moment) before after reply h = reopened_any left moment before after reply h
+done_any left Unread before after reply h = h
+
+-- What is done is done, whichever image an opening finds.
+pub are_done : (left : Image → Type 0) (acts : List Act) (replies : List Reply) (first last : Place) → AreDoneAmong left first acts replies last → AreDone true first acts replies last
+are_done left [] replies first last h = h
+are_done left (a ∷ more) [] first last h = absurd h
+are_done left (a ∷ more) (r ∷ rs) first last (between, here, later) = (between, done_any left a first between r here, are_done left more rs between last later)
+
+-- Where nothing is opened again, none is found.
+pub asks_among : (left : Image → Type 0) (items : List Item) (replies : List Reply) (first last : Place) → AreDone true first (map Ask items) replies last
+    → AreDoneAmong left first (map Ask items) replies last
+asks_among left [] replies first last h = h
+asks_among left (i ∷ is) [] first last h = absurd h
+asks_among left (i ∷ is) (r ∷ rs) first last (between, here, later) = (between, here, asks_among left is rs between last later)

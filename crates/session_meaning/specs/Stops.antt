@@ -16,7 +16,8 @@ use Rattle.store_reopen.specs.Through.{StoodAmid}
 use Rattle.session_meaning.specs.declared.ending.Ending.TheVariants.{NotOpened}
 use Rattle.session_meaning.specs.At.{At, history_of}
 use Rattle.session_meaning.specs.Listed.{HaveKeyOf, ListsState}
-use Rattle.session_meaning.specs.Place.{ever_unsure, history_at}
+use Rattle.session_meaning.specs.Done.{AreDoneAmong}
+use Rattle.session_meaning.specs.Place.{ever_unsure, history_at, opened_at}
 use Rattle.session_meaning.specs.Runs.{Outcome}
 
 -- The run begins with what was stored: its first history is a base alone, each span of it once, that the disk's bytes stand for;
@@ -82,7 +83,7 @@ LeavesUnopened g disk later o = o.opened ≡ false → o.ending ≢ NotOpened �
 -- and then the entry that isn't sure. If the store is open at the end and writes, each such image lists its last state: what upkeep was
 -- told to have done stands on the disk. Each image that a crash may have left at any moment of the run keeps what one could have left at
 -- its start; or it stands for that with the first few of these pushes, and it may be with one that wasn't sure. And it is tidy where all
--- were at the start.
+-- were at the start. Where the run opened its store again, it began on an image that a crash may have left since the start.
 pub record Recovers {D : Type 0} (g : Ghosts D) (disk later : D) (o : Outcome) : Type 0 where
   pub begins : IsTrue o.opened → Begins (g.held disk) o.moment o.first
   pub returned : IsTrue o.opened → Returns (g.may_leave later) o
@@ -90,3 +91,4 @@ pub record Recovers {D : Type 0} (g : Ghosts D) (disk later : D) (o : Outcome) :
   pub unopened : LeavesUnopened g disk later o
   pub any_moment : Leaves (g.may_leave disk) (g.left_since later (g.moment disk)) o
   pub tidy : AreTidy (g.may_leave disk) → AreTidy (g.left_since later (g.moment disk))
+  pub found : IsTrue o.opened → AreDoneAmong (g.left_since later (g.moment disk)) (opened_at o.first) o.acts o.replies o.last

@@ -51,7 +51,7 @@ ghost use Rattle.session_meaning.specs.Act.{Act};
 ghost use Rattle.session_meaning.specs.Act.Act.{Ask};
 ghost use Rattle.session_meaning.specs.Answering.{AreItemsAnswered, CallsLead, IsAnsweredByCalls, at_core};
 ghost use Rattle.session_meaning.specs.Causes.{HasCompactCause, HasFlushCause, HasPushCause, HasWriteCause, act_blames_disk, blames_disk, disk_faults};
-ghost use Rattle.session_meaning.specs.Done.{AreDone};
+ghost use Rattle.session_meaning.specs.Done.{AreDone, AreDoneAmong};
 ghost use Rattle.session_meaning.specs.Kept.{begun_with, kept_after_all, kept_at, were_unsure};
 ghost use Rattle.session_meaning.specs.Listed.{ListsState};
 ghost use Rattle.session_meaning.specs.Over.{AreDoneOver, IsKeptAt, IsShownAt};
@@ -120,6 +120,16 @@ pub fn a_store_answers_as_the_history_says<D: Device>(old: &Store<D>, new: &Stor
         → IsKeptAt D.Device.own start least old.now first → IsTrue (D.tells (disk_of old.now))
         → (last : Place) × IsKeptAt D.Device.own start least new.now last
         × AreDone true first acts replies last }
+    // Then each opening finds an image that a crash may have left since that earlier disk.
+    ensures found { (acts : List Act) (replies : List Reply) (first : Place) (start : D) (least : ℕ)
+        → AreDoneOver D.Device.own old.now acts replies new.now
+        → IsKeptAt D.Device.own start least old.now first → IsTrue (D.tells (disk_of old.now))
+        → (last : Place) × IsKeptAt D.Device.own start least new.now last
+        × AreDoneAmong (D.left_since (disk_of new.now) (D.moment start)) first acts replies last }
+    // What is done so is done, whichever image an opening finds.
+    ensures done { (left : Image
+        → Type 0) (acts : List Act) (replies : List Reply) (first last : Place)
+        → AreDoneAmong left first acts replies last → AreDone true first acts replies last }
 {}
 
 /// What is asked of an open store, with no reopening in between, is a session: so all that is said of sessions is said of
