@@ -1,5 +1,5 @@
 -- What is done over a store that is open or closed is what a session means.
-use Rattle.std.proofs.Common.{◌≡◌, ◌≢◌, ⊤, inl, inr, ℕ, ◌≤◌, Bool, true, false, List, [], ◌∷◌, ◌++◌, Option, None, Some, Result, Ok, Err, IsTrue, map, refl, sym, ◌∙◌, ap, subst}
+use Rattle.std.proofs.Common.{arith, ◌≡◌, ◌≢◌, ⊤, inl, inr, ℕ, ◌≤◌, Bool, true, false, List, [], ◌∷◌, ◌++◌, Option, None, Some, Result, Ok, Err, IsTrue, map, refl, sym, ◌∙◌, ap, subst}
 use Rattle.disk_model.specs.Counts.{Raised}
 use Rattle.disk_model.specs.Crash.{LeavesOnly, Reached}
 use Rattle.disk_model.specs.Images.{Image}
@@ -354,23 +354,24 @@ module _ {D : Type 0} (g : Ghosts D) (held_may_stay : (disk : D) → IsTrue (g.t
     keeps = keeps_from_then g only_now (disk_of store) (history_at place) place.unsure kept.keeps.now;
   }
 
-  -- Before each line the disk holds what a crash might have left since the start, as it can be told after the last line.
-  pub held_among : (new store : Store D) (rest : List Act) (later : List Reply) (place : Place) → AreDoneOver g store rest later new → IsKeptAt g start least store place
-      → IsTrue (g.tells (disk_of store)) → g.left_since (disk_of new) (g.moment start) (g.held (disk_of store))
-  held_among new store rest later place over kept tells =
+  -- Before each line the disk holds what a crash might have left since an earlier moment, as it can be told after the last line.
+  held_among : (since : ℕ) → since ≤ g.moment start → (new store : Store D) (rest : List Act) (later : List Reply) (place : Place) → AreDoneOver g store rest later new
+      → IsKeptAt g start least store place → IsTrue (g.tells (disk_of store)) → g.left_since (disk_of new) since (g.held (disk_of store))
+  held_among since early new store rest later place over kept tells =
       let disk = disk_of store in
-      let le = (kept.keeps.past tells).later in
+      let after = (kept.keeps.past tells).later in
+      let le : since ≤ g.moment disk = omega (arith, early, after) in
       let ended = acts_kept g held_may_stay disk (count_of (history_at place)) rest later store new (record place { pending = [] }) over
       (kept_from_then store place kept) tells in
-      (ended.1.keeps.past (over_tells g rest later store new over tells)).keeps (g.moment start) (g.held disk) le
-      (counts_now disk (g.moment start) (g.held disk) le (held_may_stay disk tells))
+      (ended.1.keeps.past (over_tells g rest later store new over tells)).keeps since (g.held disk) le
+      (counts_now disk since (g.held disk) le (held_may_stay disk tells))
 
-  -- So what is done over a store from the start on is done so that each opening finds an image that a crash may have left since then.
-  pub acts_left : (acts : List Act) (replies : List Reply) (old new : Store D) (first : Place) → AreDoneOver g old acts replies new → IsKeptAt g start least old first
-      → IsTrue (g.tells (disk_of old))
-      → (last : Place) × IsKeptAt g start least new last × AreDoneAmong (g.left_since (disk_of new) (g.moment start)) first acts replies last
-  acts_left acts replies old new first over kept tells =
-      acts_among g held_may_stay start least (g.left_since (disk_of new) (g.moment start)) acts replies old new first (held_among new) over kept tells
+  -- So each opening finds an image that a crash may have left since then.
+  pub acts_left : (since : ℕ) → since ≤ g.moment start → (acts : List Act) (replies : List Reply) (old new : Store D) (first : Place) → AreDoneOver g old acts replies new
+      → IsKeptAt g start least old first → IsTrue (g.tells (disk_of old))
+      → (last : Place) × IsKeptAt g start least new last × AreDoneAmong (g.left_since (disk_of new) since) first acts replies last
+  acts_left since early acts replies old new first over kept tells =
+      acts_among g held_may_stay start least (g.left_since (disk_of new) since) acts replies old new first (held_among since early new) over kept tells
 
 -- ---- whichever image it finds
 

@@ -146,12 +146,14 @@ no_truth : IsTrue false → ⊥
 no_truth e = let bad : false ≡ true = e in cc
 
 -- It keeps what was stored where each image since its start does.
-pub unopened_recovers : {D : Type 0} (g : Ghosts D) (disk later : D) (e : Ending)
+pub unopened_recovers : {D : Type 0} (g : Ghosts D) (disk later : D) (e : Ending) → (e ≢ NotOpened → LeavesAlone g disk later)
     → ((image : Image) → g.left_since later (g.moment disk) image → Reached KeepsStored (g.may_leave disk) image) → Recovers g disk later (unopened e)
-unopened_recovers g disk later e kept = record {
+unopened_recovers g disk later e alone kept = record {
   begins = λ opened. absurd (no_truth opened);
   returned = λ opened. absurd (no_truth opened);
   kept_up = λ opened. absurd (no_truth opened);
+  unopened = λ closed. alone;
+  found = λ opened. absurd (no_truth opened);
   any_moment = λ image left. inl (kept image left);
   tidy = λ at_first image left. (let was = kept image left in was.2.tidy (at_first was.0 was.1));
 }
@@ -166,7 +168,7 @@ left_same g only_now disk = record {
 -- a disk that wasn't touched
 pub untouched_recovers : {D : Type 0} (g : Ghosts D) (only_now : (disk : D) (image : Image) → g.left_since disk (g.moment disk) image → g.may_leave disk image) (disk : D) (e : Ending)
     → Recovers g disk disk (unopened e)
-untouched_recovers g only_now disk e = unopened_recovers g disk disk e (λ image left. (image, only_now disk image left, keeps_same image))
+untouched_recovers g only_now disk e = unopened_recovers g disk disk e (λ other. left_same g only_now disk) (λ image left. (image, only_now disk image left, keeps_same image))
 
 -- Memory ran out for the words.
 pub starved_runs : (told : Bool) (words : List (List ℕ)) (old : Edges) → IsRunOf told words (unopened Starved) old old

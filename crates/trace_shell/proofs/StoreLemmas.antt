@@ -31,7 +31,7 @@ use Rattle.session_meaning.specs.Answering.{at_core}
 use Rattle.session_meaning.specs.Duties.{Duty, Follows, duties}
 use Rattle.session_meaning.specs.Act.{Act}
 use Rattle.session_meaning.specs.Act.Act.{Ask}
-use Rattle.session_meaning.specs.Done.{AreDone}
+use Rattle.session_meaning.specs.Done.{AreDone, AreDoneAmong}
 use Rattle.session_meaning.specs.Over.{AreDoneOver, IsKeptAt, IsShownAt}
 use Rattle.session_meaning.specs.Place.{Place, opened_at}
 use Rattle.session_meaning.specs.Progress.{AreAnsweredOver, HasAnsweredOver, FollowsOver}
@@ -41,7 +41,7 @@ use Rattle.session_meaning.specs.Session.{Session}
 use Rattle.session_meaning.specs.Stops.{AreTidy, Recovers}
 use Rattle.session_meaning.proofs.Acts.{all_first, session_asks, unsure_after_all}
 use Rattle.session_meaning.proofs.CoreSessions.{StandsThrough, shown_ingests, shown_means, through_ingests, through_means}
-use Rattle.session_meaning.proofs.StoreSessions.{acts_kept, acts_shown, acts_tidy, asks_over, store_lists}
+use Rattle.session_meaning.proofs.StoreSessions.{acts_left, acts_shown, acts_tidy, asks_among, asks_over, store_lists}
 use Rattle.session_meaning.proofs.Unsure.{items_unsure}
 use Rattle.trace_shell.specs.Turn.{CameByLines, CameOver, CameTo, HasDone, IsHeld}
 use Rattle.trace_shell.proofs.RunLemmas.{if_told, in_store, past_is_no_fault}
@@ -93,6 +93,7 @@ pub record CameAsked {D : Type 0} (g : Ghosts D) (is_with : Core D → Machine �
   pub later : Core D
   pub is : store ≡ Open later
   pub items : List Item
+  pub acts_are : acts ≡ map Ask items
   pub over : HasAnsweredOver (port_of g) core items replies later
   pub machine : Machine
   pub stands : is_with later machine
@@ -118,6 +119,7 @@ module _ {D : Type 0} (g : Ghosts D) (is_with : Core D → Machine → Type 0) (
         later = later;
         is = is;
         items = items;
+        acts_are = acts_are;
         over = over;
         machine = run.0;
         stands = run.1;
@@ -129,6 +131,7 @@ module _ {D : Type 0} (g : Ghosts D) (is_with : Core D → Machine → Type 0) (
         later = later;
         is = is;
         items = items;
+        acts_are = acts_are;
         over = over;
         machine = run.0;
         stands = run.1;
@@ -152,6 +155,7 @@ module _ {D : Type 0} (g : Ghosts D) (is_with : Core D → Machine → Type 0) (
         later = later;
         is = is;
         items = items;
+        acts_are = acts_are;
         over = over;
         machine = run.0;
         stands = run.1;
@@ -176,6 +180,7 @@ module _ {D : Type 0} (g : Ghosts D) (is_with : Core D → Machine → Type 0) (
         later = later;
         is = is;
         items = items;
+        acts_are = acts_are;
         over = all;
         machine = run.0;
         stands = run.1;
@@ -208,10 +213,13 @@ module _ {D : Type 0} (g : Ghosts D) (core : Core D) (store : Store D) (m : Mach
       of_shown (Alone line) (asked_alone g (CoreShows g) false (shown_means g) (shown_ingests g) core store m shows line old_left old_taken told left taken to_tell e acts replies blamed came)
 
   -- Where the disk tells its bytes, and they were a store's.
-  module _ (held_may_stay : (disk : D) → IsTrue (g.tells disk) → g.may_leave disk (g.held disk)) (start : D) (least : ℕ) where
+  module _ (held_may_stay : (disk : D) → IsTrue (g.tells disk) → g.may_leave disk (g.held disk))
+      (counts_now : (disk : D) (start : ℕ) (image : Image) → start ≤ g.moment disk → g.may_leave disk image → g.left_since disk start image)
+      (only_now : (disk : D) (image : Image) → g.left_since disk (g.moment disk) image → g.may_leave disk image) (start : D) (least : ℕ) (since : ℕ) (early : since ≤ g.moment start) where
+    -- Each opening finds an image that a crash may have left since that moment.
     abbrev pub IsKept : Command → Type 0
     IsKept c =
-        (last : Place) × IsKeptAt g start least store last × AreDone true (opened_at (at_core g core m)) acts replies last
+        (last : Place) × IsKeptAt g start least store last × AreDoneAmong (g.left_since (disk_of store) since) (opened_at (at_core g core m)) acts replies last
         × CameTo true c (at_core g core m) last old_left old_taken told left taken to_tell e acts replies blamed
 
     -- the entry that isn't sure is the one that the replies tell
@@ -235,14 +243,16 @@ module _ {D : Type 0} (g : Ghosts D) (core : Core D) (store : Store D) (m : Mach
             stands = (refl, sym unsure, a.stands.0);
             keeps = subst (λ (u : Option Entry). KeepsThrough g start least [] a.later.disk a.machine.history u) unsure a.stands.2;
           }),
-          a.done,
+          subst (λ (as_done : List Act). AreDoneAmong (g.left_since (disk_of store) since) (opened_at (at_core g core m)) as_done replies last) (sym a.acts_are)
+              (asks_among (g.left_since (disk_of store) since) a.items replies (opened_at (at_core g core m)) last
+              (subst (λ (as_done : List Act). AreDone true (opened_at (at_core g core m)) as_done replies last) a.acts_are a.done)),
           a.came,
         )
 
     pub came_kept : (c : Command) → m.read_only ≡ None → StandsThrough g start least [] core m → CameOver c g core store old_left old_taken told left taken to_tell e acts replies blamed → IsKept c
     came_kept session writes stands came =
         let none : unsure_of core.state ≡ None = stands.0.stands.sure (sym stands.0.stands.has.read_only ∙ writes) in
-        let all = acts_kept g held_may_stay start least acts replies (Open core) store (opened_at (at_core g core m)) came.0
+        let all = acts_left g held_may_stay counts_now only_now start least since early acts replies (Open core) store (opened_at (at_core g core m)) came.0
         (record { faults = refl; stands = (refl, sym none, stands.0); keeps = subst (λ (u : Option Entry). KeepsThrough g start least [] core.disk m.history u) none stands.2 }) stands.1 in
         (all.0, all.1, all.2, came.1)
     came_kept ingest writes stands came =
@@ -304,13 +314,16 @@ module _ {D : Type 0} (g : Ghosts D) (disk : D) (moment : ℕ) (core : Core D) (
       (only_now : (disk : D) (image : Image) → g.left_since disk (g.moment disk) image → g.may_leave disk image)
       (told : IsTrue (g.tells disk)) (founded : OpensAs g disk moment core first) where
     pub opened_recovers : KeepsDisk g disk core.disk → g.tells core.disk ≡ g.tells disk → StandsThrough g core.disk (count_of first.history) [] core first
-        → AreDoneOver g (Open core) acts replies store → IsKeptAt g core.disk (count_of first.history) store last → IsTrue (g.tells (disk_of store)) → Recovers g disk (disk_of store) outcome
-    opened_recovers keeps telling begun over kept_at_end told_later =
+        → AreDoneOver g (Open core) acts replies store → IsKeptAt g core.disk (count_of first.history) store last → IsTrue (g.tells (disk_of store))
+        → AreDoneAmong (g.left_since (disk_of store) (g.moment disk)) (opened_at outcome.first) acts replies last → Recovers g disk (disk_of store) outcome
+    opened_recovers keeps telling begun over kept_at_end told_later found =
         let kept = keeps told in
         let stored = founded.stored told in record {
           begins = λ opened. record { stored = stored.0; once = opens.once; base_alone = opens.base_alone; begins = stored.1 };
           returned = λ opened. kept_at_end.keeps.now told_later;
           kept_up = λ opened is_open writes. store_lists g store last kept_at_end.stands told_later is_open writes;
+          unopened = λ closed. let bad : true ≡ false = closed in cc;
+          found = λ opened. found;
           any_moment = λ image left.
               ⊎_elim (λ early. inl (kept.since.each image early)) (λ stood. inr (refl, stood))
               ((kept_at_end.keeps.past told_later).before (g.moment disk) image kept.since.later left);

@@ -10,7 +10,10 @@ use Rattle.store_reopen.specs.declared.store.Store.TheVariants.{Open}
 use Rattle.store_images.specs.Stored.{IsSoundImage}
 use Rattle.store_model.specs.History.{count_of}
 use Rattle.session_meaning.proofs.CoreSessions.{StandsThrough}
-use Rattle.session_meaning.proofs.StoreSessions.{over_tells}
+use Rattle.session_meaning.proofs.StoreSessions.{are_done, over_tells}
+use Rattle.session_meaning.specs.Answering.{at_core}
+use Rattle.session_meaning.specs.Place.{opened_at}
+use Rattle.store_reopen.specs.Reopened.{disk_of}
 use Rattle.traceql_types.proofs.Calls.{refuses-none}
 use Rattle.trace_shell.specs.Turn.{CameOver}
 use Rattle.trace_shell.proofs.RunLemmas.{cause_of, if_told, no_fault, unopened, unopened_done, unopened_recovers}
@@ -66,19 +69,21 @@ returns-in-Ok-clause-recovers g c = λ told sound.
     c.now-moment.ensures.later came.4 in
     let over = done_over d (command_of c.args.asked) core store old.left old.taken (after_moment old.moments) new.left new.taken new.moments e came.0 came.1 came.2 come in
     let run = came_kept d core store begins.0 old.left old.taken (after_moment old.moments) new.left new.taken new.moments e came.0 came.1 came.2
-    met.held_may_stay core.disk (count_of begins.0.history) (command_of c.args.asked) begins.1.over.empty.writes begun come in
+    met.held_may_stay met.counts_now met.only_now core.disk (count_of begins.0.history) (d.moment disk) (c.in-Ok.ensures.kept told).since.later
+    (command_of c.args.asked) begins.1.over.empty.writes begun come in
+    let done = are_done (d.left_since (disk_of store) (d.moment disk)) came.0 came.1 (opened_at (at_core d core begins.0)) run.0 run.2 in
     let tells = over_tells d came.0 came.1 (Open core) store over begun.1 in (
       in_a_store d moment core begins.0 run.0 e came.0 came.1 came.2,
       refl,
       came.3,
       opened_done d disk moment core store begins.0 run.0 e came.0 came.1 came.2 begins.1.over true (command_of c.args.asked) old new
-          refl refl (ap (λ (at : At). at.faults) run.1.faults ∙ sym (ap d.faults c.into_disk.ensures)) c.now-moment.ensures.moment c.in-Ok.ensures.unbroken (c.in-Ok.ensures.calls.quiet tt) run.2
+          refl refl (ap (λ (at : At). at.faults) run.1.faults ∙ sym (ap d.faults c.into_disk.ensures)) c.now-moment.ensures.moment c.in-Ok.ensures.unbroken (c.in-Ok.ensures.calls.quiet tt) done
           run.3
           c.do_asked-ending.ensures.endings
           (cause_of e old new c.do_asked-ending.ensures.endings c.do_asked-ending.ensures.write_fault c.do_asked-ending.ensures.read_fault c.do_asked-ending.ensures.spent),
       subst (λ x. Recovers d disk x (in_a_store d moment core begins.0 run.0 e came.0 came.1 came.2)) (sym c.into_disk.ensures)
           (opened_recovers d disk moment core store begins.0 run.0 e came.0 came.1 came.2 begins.1.over met.held_may_stay met.counts_now met.only_now told begins.1
-          c.in-Ok.ensures.kept telling begun over run.1 tells),
+          c.in-Ok.ensures.kept telling begun over run.1 tells run.2),
     )
 
 pub returns-in-Err-clause-ran : goal.returns-in-Err-clause-ran
@@ -107,7 +112,9 @@ returns-in-Err-clause-recovers g c = λ told sound.
           c.in-Err.ensures.calls_refused.fault c.in-Err.ensures.calls_refused.quiet (c.in-Err.ensures.calls_refused.near (omega arith))
           (λ file at is. if_told d c.args.disk (λ image. StoreBreaks image file at × (IsSoundImage image → ⊥))
           (λ told. (c.in-Err.ensures.not_store told file at is, λ sound. c.in-Err.ensures.sound told sound file at is))),
-      unopened_recovers d c.args.disk c.in-Err.disk c.refuse_store.result (λ image left. (c.in-Err.ensures.kept_refused told).since.each image left),
+      unopened_recovers d c.args.disk c.in-Err.disk c.refuse_store.result
+          (λ other. c.in-Err.ensures.left told (no_fault c.in-Err.error c.refuse_store.result (g.K.Sink.taken c.args.sink.now) (g.K.Sink.taken c.refuse_store.new.sink) c.refuse_store.ensures.told other))
+          (λ image left. (c.in-Err.ensures.kept_refused told).since.each image left),
     )
 
 pub returns-in-Ok-clause-left : goal.returns-in-Ok-clause-left
