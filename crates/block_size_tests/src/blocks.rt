@@ -88,13 +88,7 @@ impl Filed {
     /// The rows of the trace with this number, and how many pages were read for them.
     pub(crate) fn rows_of(&mut self, rt: &(impl Abort + AllocGlobal), number: u64) -> (Rows, u64) {
         let before = self.pages.reads();
-        let rows = trace_rows(
-            rt.alloc(),
-            &mut self.pages,
-            FILE,
-            &self.info,
-            trace(number),
-        );
+        let rows = trace_rows(rt.alloc(), &mut self.pages, FILE, &self.info, trace(number));
         let rows = rows.expect(rt, "a block");
         (rows, self.pages.reads().wrapping_sub(before))
     }

@@ -3,10 +3,16 @@
 //! A block has 65,536 spans, 64 of each of 1,024 traces. Of a trace the 32 spans at even places are in all four blocks, and
 //! the 32 at odd places are of that block alone. So all of it has 262,144 rows, and of a trace 32 + 4 · 32 = 160 first
 //! occurrences, in all 163,840.
+//!
+//! They are joined in two ways: as a flush does, whose rows are in any order, and by what a compaction does trace by trace, which
+//! goes over checked bytes, merges what the blocks have and builds a block row by row.
 
 use crate::blocks::{Filed, Layout, block_of, checked};
 use crate::rows::{Owners, Said, said_of};
-use span_types::{Memory, Row, Rows};
+use block_build::{Builder, BuiltBlock};
+use block_cursor::{ReadBlock, RowsLeft};
+use compactor::merge_rows;
+use span_types::{Memory, Row, Rows, Seq};
 use std::alloc::Global;
 use std::process::Abort;
 
@@ -36,7 +42,10 @@ fn said(block: u64, trace: u64, place: u64) -> Said {
     Said {
         trace,
         span: own.wrapping_add(place),
-        start: place.wrapping_mul(BLOCKS).wrapping_add(3).wrapping_sub(turn),
+        start: place
+            .wrapping_mul(BLOCKS)
+            .wrapping_add(3)
+            .wrapping_sub(turn),
         push,
         position: u32::try_from(position).unwrap_or(u32::MAX),
     }
@@ -127,36 +136,85 @@ fn are_firsts(rows: &[Row]) -> bool {
     true
 }
 
-/// The rows that are read of one of the four blocks.
-fn part(rt: &(impl Abort + AllocGlobal), block: u64) -> Rows {
+/// One of the four blocks.
+fn part(rt: &(impl Abort + AllocGlobal), block: u64) -> BuiltBlock {
     let rows = rows(rt.alloc(), block).expect(rt, "memory");
-    checked(rt, block_of(rt, rows), &PART).rows(rt)
+    block_of(rt, rows)
 }
 
 /// The rows that are read of these blocks, one block after the other.
 fn joined(rt: &(impl Abort + AllocGlobal), blocks: &[u64]) -> Rows {
     let mut all = Vec::new(rt.alloc());
     for block in blocks {
-        let mut rows = part(rt, *block).into_vec();
+        let mut rows = checked(rt, part(rt, *block), &PART).rows(rt).into_vec();
         all.append(&mut rows).expect(rt, "memory");
     }
     Rows::of(all)
 }
 
-fn whole(rt: &(impl Abort + AllocGlobal), blocks: &[u64]) -> Filed {
+/// The block of the rows of these blocks, where they are sorted as a whole.
+fn sorted(rt: &(impl Abort + AllocGlobal), blocks: &[u64]) -> Filed {
     let rows = joined(rt, blocks);
     assert!(rt; rows.len() == 262_144);
     checked(rt, block_of(rt, rows), &WHOLE)
 }
 
+/// The rows of a block, gone over one after another. There are no more than it is said to have.
+fn gone_over(rt: &(impl Abort + AllocGlobal), block: &ReadBlock) -> Rows {
+    let mut left = RowsLeft::of(rt.alloc(), block).expect(rt, "memory");
+    let mut rows = Vec::new(rt.alloc());
+    for _ in 0..PART.rows {
+        let row = left.next().expect(rt, "memory").expect(rt, "a row");
+        rows.push(row).expect(rt, "memory");
+    }
+    assert!(rt; left.trace().is_none());
+    Rows::of(rows)
+}
+
+/// The first occurrences of the rows of these blocks, each of which is held as its bytes.
+fn merged(rt: &(impl Abort + AllocGlobal), blocks: &[u64]) -> Rows {
+    let mut parts = Vec::new(rt.alloc());
+    for block in blocks {
+        let bytes = part(rt, *block).bytes;
+        let held = block_cursor::checked(rt.alloc(), bytes, PART.rows).expect(rt, "a block");
+        parts.push(gone_over(rt, &held)).expect(rt, "memory");
+    }
+    merge_rows(rt.alloc(), Seq::of(parts)).expect(rt, "memory")
+}
+
+/// The block to which these rows are added one after another.
+fn built(rt: &(impl Abort + AllocGlobal), rows: Rows) -> BuiltBlock {
+    let mut builder = Builder::new(rt.alloc(), 1);
+    for row in rows.into_vec() {
+        builder.add(row).expect(rt, "memory");
+    }
+    builder
+        .finish()
+        .expect(rt, "memory")
+        .expect(rt, "rows in block order")
+}
+
 /// Orders in which the blocks are joined.
 static ORDERS: [[u64; 4]; 3] = [[0, 1, 2, 3], [3, 2, 1, 0], [2, 0, 3, 1]];
 
+/// Asserts that a block has the first occurrences of all rows.
+fn check(rt: &(impl Abort + AllocGlobal), filed: &mut Filed, blocks: &[u64]) {
+    let rows = filed.rows(rt);
+    assert!(rt; rows.len() == 163_840);
+    assert!(rt; are_firsts(rows.as_slice()), "{blocks:?}");
+}
+
 #[test]
-fn four_blocks_that_share_each_second_span(rt: HostRuntime) {
+fn four_blocks_that_share_each_second_span_are_sorted(rt: HostRuntime) {
     for blocks in &ORDERS {
-        let rows = whole(&rt, blocks).rows(&rt);
-        assert!(&rt; rows.len() == 163_840);
-        assert!(&rt; are_firsts(rows.as_slice()), "{blocks:?}");
+        check(&rt, &mut sorted(&rt, blocks), blocks);
+    }
+}
+
+#[test]
+fn they_are_merged_and_built_row_by_row(rt: HostRuntime) {
+    for blocks in &ORDERS {
+        let rows = merged(&rt, blocks);
+        check(&rt, &mut checked(&rt, built(&rt, rows), &WHOLE), blocks);
     }
 }
