@@ -31,6 +31,8 @@ pub record LeavesOnly {D : Type 0} (moment : D → ℕ) (left_since : D → ℕ 
   pub each : (image : Image) → left_since new (moment old) image → property image
   -- for a run that began earlier
   pub before : (start : ℕ) (image : Image) → start ≤ moment old → left_since new start image → left_since old start image ⊎ property image
+  -- what a crash might have left before it might still have left
+  pub keeps : (start : ℕ) (image : Image) → start ≤ moment old → left_since old start image → left_since new start image
 
 -- an image that differs in this file alone from one that might have been left, with bytes there that have the property
 pub record ButFor (file : ℕ) (property : List ℕ → Type 0) (images : Image → Type 0) (image : Image) : Type 0 where
