@@ -175,7 +175,7 @@ fn gone_over(rt: &(impl Abort + AllocGlobal), block: &ReadBlock) -> Rows {
 fn merged(rt: &(impl Abort + AllocGlobal), blocks: &[u64]) -> Rows {
     let mut parts = Vec::new(rt.alloc());
     for block in blocks {
-        let bytes = part(rt, *block).bytes;
+        let BuiltBlock { bytes, .. } = part(rt, *block);
         let held = block_cursor::checked(rt.alloc(), bytes, PART.rows).expect(rt, "a block");
         parts.push(gone_over(rt, &held)).expect(rt, "memory");
     }
