@@ -17,7 +17,7 @@ const ENDS: &str = "unended";
 /// A condition: a name that is missing, strings and words that don't end, a number whose unit is missing.
 const CONDITIONS: &str = r#"{ .a = "x\n" && duration > 1.5ms }"#;
 
-static IN_CONDITIONS: [Run; 13] = [
+const IN_CONDITIONS: &[Run] = &[
     (0, 2, ENDS),
     (3, 3, "unexpected 2"),
     (4, 7, ENDS),
@@ -37,7 +37,7 @@ static IN_CONDITIONS: [Run; 13] = [
 /// Spansets and stages: a query ends behind each stage, and where a number needs no unit.
 const STAGES: &str = "({ } &>> { .b }) | by(kind) | max(-.c) <= -2h | select(status)";
 
-static IN_STAGES: [Run; 24] = [
+const IN_STAGES: &[Run] = &[
     (0, 5, ENDS),
     (6, 6, "unexpected 5"),
     (7, 11, ENDS),
@@ -67,7 +67,7 @@ static IN_STAGES: [Run; 24] = [
 /// Without spaces: signs of one byte that go on, names in quotes, and parts of a duration that only together are whole.
 const TIGHT: &str = "{span.\"a b\"=`c`}!~{nil!=0.5ns0.5ns}";
 
-static IN_TIGHT: [Run; 18] = [
+const IN_TIGHT: &[Run] = &[
     (0, 1, ENDS),
     (2, 5, "bad-char 1"),
     (6, 6, "unexpected 1"),
@@ -89,9 +89,9 @@ static IN_TIGHT: [Run; 18] = [
 ];
 
 static TEXTS: [(&str, &[Run]); 3] = [
-    (CONDITIONS, &IN_CONDITIONS),
-    (STAGES, &IN_STAGES),
-    (TIGHT, &IN_TIGHT),
+    (CONDITIONS, IN_CONDITIONS),
+    (STAGES, IN_STAGES),
+    (TIGHT, IN_TIGHT),
 ];
 
 /// What a text is answered.
