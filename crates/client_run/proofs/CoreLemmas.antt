@@ -33,12 +33,12 @@ counted_by (Refused Memory) before now quiet rose = quiet (λ e. let bad : ⊥ =
 counted_by (Refused Fault) before now quiet rose = rose refl
 
 -- each event keeps that a core is so with a machine, by a step
-abbrev KeepsSteps : {D : Type 0} → Ghosts D → (Core D → Machine → Type 0) → Type 0
+abbrev pub KeepsSteps : {D : Type 0} → Ghosts D → (Core D → Machine → Type 0) → Type 0
 KeepsSteps {D} g is_with =
     (old new : Core D) (event : Event) (reply : Reply) → Did g old event reply new → (m : Machine) → is_with old m
     → (m' : Machine) × is_with new m' × Step (g.faults old.disk) (g.faults new.disk) m event reply m'
 
-stepped : {D : Type 0} (g : Ghosts D) (is_with : Core D → Machine → Type 0) → KeepsSteps g is_with → (old new : Core D) (calls : List Call) → AreMade (port_of g) old calls new
+pub stepped : {D : Type 0} (g : Ghosts D) (is_with : Core D → Machine → Type 0) → KeepsSteps g is_with → (old new : Core D) (calls : List Call) → AreMade (port_of g) old calls new
     → (m : Machine) → is_with old m → HasStepped g is_with old calls new m
 stepped {D} g is_with keeps old new [] made m stands = record {
   machine = m;

@@ -1,16 +1,17 @@
 -- Histories that can't be told apart are told alike, and stored alike.
 use Rattle.std.proofs.Common.{◌≡◌, ◌⊎◌, inl, inr, ◌∙◌, ℕ, ◌+◌, ◌-◌, ◌≤◌, suc, List, [], ◌∷◌, ◌++◌, Option, Some, None, Ok, Err, IsTrue, ap, arith, length, refl, sym, subst, take, true}
+use Rattle.std.specs.List.{Contains}
 use Rattle.disk_model.specs.Images.{Image}
 use Rattle.disk_model.specs.Crash.{Reached}
 use Rattle.disk_model.specs.declared.disk.Device.{Ghosts}
 use Rattle.client_run.specs.Answers.{asked_of, counted_of}
 use Rattle.query_fanout.specs.declared.searching.Asked.{Asked}
 use Rattle.session_text.specs.declared.reply.Reply.{Reply}
-use Rattle.session_text.specs.declared.reply.Reply.TheVariants.{Measured, Pushed, Refused, Searched, Traced}
+use Rattle.session_text.specs.declared.reply.Reply.TheVariants.{Measured, Pushed, Refused, Reopened, Searched, Traced}
 use Rattle.session_text.specs.declared.request.Request.TheVariants as request
 use Rattle.session_text.specs.Items.{Item}
 use Rattle.spanset_eval.specs.declared.results.TraceResult.{TraceResult}
-use Rattle.store_core.specs.Stood.{StoodFor}
+use Rattle.store_reopen.specs.Through.{Pending, StoodAmid}
 use Rattle.store_entries.specs.declared.entry.Entry.{Entry}
 use Rattle.store_images.specs.Stored.{ImageStandsFor, KeepsStored, MayStandFor}
 use Rattle.store_model.specs.History.{History, count_of, grown, history_rows, up_to, with_entry}
@@ -18,14 +19,16 @@ use Rattle.store_model.proofs.HistoryLaws.{count_grown}
 use Rattle.stored_history.specs.Alike.{AreAlike}
 use Rattle.stored_history.proofs.OneHistory.{alike, stands_for_alike}
 use Rattle.stored_history.proofs.StayAlike.{same_firsts, stay_alike}
+use Rattle.session_meaning.specs.Act.{Act}
+use Rattle.session_meaning.specs.Act.Act.{Ask, Reopen, Unread}
 use Rattle.session_meaning.specs.At.{history_of}
-use Rattle.session_meaning.specs.Pushes.{accepted_entries, accepted_entry, unsure_entry}
+use Rattle.session_meaning.specs.Kept.{Kept, begun_with, kept_after, kept_after_all, kept_at, were_unsure}
 use Rattle.session_meaning.specs.Runs.{Edges, IsRunOf, Outcome}
 use Rattle.session_meaning.specs.Session.{IsFound}
 use Rattle.session_meaning.specs.Stops.{Recovers}
 use Rattle.session_meaning.proofs.Firsts.{trace_alike}
-use Rattle.headline.specs.Headline.{KeepsTheHistory, Tells, TellTheHistory, after_reply}
-use Rattle.headline.proofs.Histories.{line_grows, no_shorter, now_is, one_more, same_grown, told_grows}
+use Rattle.headline.specs.Headline.{KeepsTheHistory, Tells, TellTheHistory, TellsOf}
+use Rattle.headline.proofs.Histories.{KeptAlike, acts_grow, added_all, added_all_alike, all_alike, all_since, begins_since, line_alike, told_kept, were_alike, were_since}
 use Rattle.headline.proofs.Kept.{kept_throughout, run_keeps}
 
 -- ---- what is told
@@ -46,18 +49,22 @@ tells_alike (Ok (request.Search s)) r h g same t = absurd t
 tells_alike (Ok (request.Metrics m)) r h g same t = absurd t
 tells_alike (Ok _) r h g same t = t
 
-line_alike : (item : Item) (r : Reply) (h g : History) → AreAlike h g → AreAlike (after_reply h item r) (after_reply g item r)
-line_alike item r h g same =
-    subst (λ (x : History). AreAlike x (after_reply g item r)) (sym (line_grows h item r))
-    (subst (λ (x : History). AreAlike (grown h (accepted_entry item r)) x) (sym (line_grows g item r)) (stay_alike h g (accepted_entry item r) same))
+again_alike : (entries : ℕ) (k l : Kept) → KeptAlike k l → (moment : ℕ) → entries ≡ count_of (kept_after k (Reopen moment) (Reopened entries)).history
+    → entries ≡ count_of (kept_after l (Reopen moment) (Reopened entries)).history
+again_alike entries k l same moment is = is ∙ (line_alike (Reopen moment) (Reopened entries) k l same).histories.counts
 
-pub told_alike : (items : List Item) (replies : List Reply) (h g last : History) → AreAlike h g → TellTheHistory h items replies last → TellTheHistory g items replies (grown g (accepted_entries items replies))
-told_alike [] replies h g last same t = (t.0, same_grown g)
-told_alike (i ∷ is) [] h g last same t = absurd t
-told_alike (i ∷ is) (r ∷ rs) h g last same t =
-    let rest = told_alike is rs (after_reply h i r) (after_reply g i r) last (line_alike i r h g same) t.1 in
-    let all = one_more g (grown (after_reply g i r) (accepted_entries is rs)) i r (accepted_entries is rs) refl in
-    (tells_alike i r h g same t.0, subst (TellTheHistory (after_reply g i r) is rs) all rest)
+act_alike : (act : Act) (r : Reply) (k l : Kept) → KeptAlike k l → TellsOf k act r → TellsOf l act r
+act_alike (Ask item) r k l same t = (sym same.is_open ∙ t.0, tells_alike item r k.history l.history same.histories t.1)
+act_alike (Reopen moment) (Reopened entries) k l same t = again_alike entries k l same moment t
+act_alike (Reopen moment) (Refused why) k l same t = tt
+act_alike (Reopen moment) _ k l same t = absurd t
+act_alike Unread r k l same t = (sym same.is_open ∙ t.0, t.1)
+
+pub told_alike : (acts : List Act) (replies : List Reply) (k l last : Kept) → KeptAlike k l → TellTheHistory k acts replies last → TellTheHistory l acts replies (kept_after_all l acts replies)
+told_alike [] replies k l last same t = (t.0, refl)
+told_alike (a ∷ more) [] k l last same t = absurd t
+told_alike (a ∷ more) (r ∷ rs) k l last same t =
+    (act_alike a r k l same t.0, told_alike more rs (kept_after k a r) (kept_after l a r) last (line_alike a r k l same) t.1)
 
 -- ---- what is stored
 
@@ -85,89 +92,124 @@ up_to_grown h more n since =
     further : (s l n : ℕ) → s + l ≤ n → n - s ≡ l + (n - (s + l))
     further s l n since = omega (arith, since)
 
-stood_alike : (image : Image) (unsure : Option Entry) (more : List Entry) (h g : History) → AreAlike h g → StoodFor (count_of h) (grown h more) unsure image
-    → StoodFor (count_of g) (grown g more) unsure image
-stood_alike image unsure more h g same (inr now) = inr (may_alike image unsure (grown h more) (grown g more) (stay_alike h g more same) now)
-stood_alike image unsure more h g same (inl (n, since, below, stands)) =
+-- the same fronts of histories that grew by the same are alike
+up_alike : (more : List Entry) (h g : History) (n : ℕ) → AreAlike h g → count_of h ≤ n → AreAlike (up_to n (grown h more)) (up_to n (grown g more))
+up_alike more h g n same since =
     let counts = same.counts in
+    let few = take (n - count_of h) more in
     let since_g : count_of g ≤ n = omega (arith, counts, since) in
+    let of_g : up_to n (grown g more) ≡ grown g few = up_to_grown g more n since_g ∙ ap (λ (c : ℕ). grown g (take (n - c) more)) (sym counts) in
+    subst (λ (x : History). AreAlike x (up_to n (grown g more))) (sym (up_to_grown h more n since))
+    (subst (AreAlike (grown h few)) (sym of_g) (stay_alike h g few same))
+
+stood_alike : (image : Image) (more : List Entry) (pending : List Pending) (h g : History) → AreAlike h g → ((p : Pending) → Contains pending p → count_of h ≤ p.length)
+    → StoodAmid (count_of h) (grown h more) pending image → StoodAmid (count_of g) (grown g more) pending image
+stood_alike image more pending h g same low (inl (n, since, below, stands)) =
+    let counts = same.counts in
     let of_h = count_grown h more in
     let of_g = count_grown g more in
-    let few = take (n - count_of h) more in
-    let front : grown g few ≡ up_to n (grown g more) = ap (λ (c : ℕ). grown g (take (n - c) more)) counts ∙ sym (up_to_grown g more n since_g) in
-    let before : ImageStandsFor image (grown h few) = subst (ImageStandsFor image) (up_to_grown h more n since) stands in
     inl (
       n,
-      since_g,
+      omega (arith, counts, since),
       omega (arith, counts, below, of_h, of_g),
-      subst (ImageStandsFor image) front (stands_for_alike image (grown h few) (grown g few) before (stay_alike h g few same)),
+      stands_for_alike image (up_to n (grown h more)) (up_to n (grown g more)) stands (up_alike more h g n same since),
+    )
+stood_alike image more pending h g same low (inr (p, there, below, stands)) =
+    let counts = same.counts in
+    let of_h = count_grown h more in
+    let of_g = count_grown g more in
+    inr (
+      p,
+      there,
+      omega (arith, counts, below, of_h, of_g),
+      stands_for_alike image (grown (up_to p.length (grown h more)) (p.entry ∷ [])) (grown (up_to p.length (grown g more)) (p.entry ∷ [])) stands
+          (stay_alike (up_to p.length (grown h more)) (up_to p.length (grown g more)) (p.entry ∷ []) (up_alike more h g p.length same (low p there))),
     )
 
 -- ---- a run
 
 module _ {D : Type 0} (g : Ghosts D) where
-  keeps_alike : (disk later : D) (items : List Item) (replies : List Reply) (h f last : History) → AreAlike h f → KeepsTheHistory g disk later items replies h last
-      → KeepsTheHistory g disk later items replies f (grown f (accepted_entries items replies))
-  keeps_alike disk later items replies h f last same kept = record {
-    told = told_alike items replies h f last same kept.told;
-    stored = λ image left. may_alike image unsure (grown h more) (grown f more) (stay_alike h f more same) (subst (λ (x : History). MayStandFor x unsure image) grows (kept.stored image left));
+  keeps_alike : (disk later : D) (acts : List Act) (replies : List Reply) (h f : History) (last : Kept) → AreAlike h f → KeepsTheHistory g disk later acts replies h last
+      → KeepsTheHistory g disk later acts replies f (kept_after_all (begun_with f) acts replies)
+  keeps_alike disk later acts replies h f last same kept = record {
+    told = told_alike acts replies (begun_with h) (begun_with f) last begin kept.told;
+    stored = λ image left.
+        subst (λ (u : Option Entry). MayStandFor of_f.history u image) all.unsure
+        (may_alike image of_h.unsure of_h.history of_f.history all.histories (subst (λ (k : Kept). MayStandFor k.history k.unsure image) is (kept.stored image left)));
     any_moment = λ image left. at_moment image (kept.any_moment image left);
   }
     where
+      begin : KeptAlike (begun_with h) (begun_with f)
+      begin = record { histories = same; is_open = refl; unsure = refl; pending = refl }
+
+      of_h : Kept
+      of_h = kept_after_all (begun_with h) acts replies
+
+      of_f : Kept
+      of_f = kept_after_all (begun_with f) acts replies
+
+      all : KeptAlike of_h of_f
+      all = all_alike acts replies (begun_with h) (begun_with f) begin
+
+      is : last ≡ of_h
+      is = told_kept acts replies (begun_with h) last kept.told
+
       more : List Entry
-      more = accepted_entries items replies
+      more = added_all (begun_with h) acts replies
 
-      unsure : Option Entry
-      unsure = unsure_entry items replies
+      grows_f : of_f.history ≡ grown f more
+      grows_f = acts_grow acts replies (begun_with f) ∙ ap (grown f) (sym (added_all_alike acts replies (begun_with h) (begun_with f) begin))
 
-      grows : last ≡ grown h more
-      grows = told_grows items replies h last kept.told
+      stood : (image : Image) → StoodAmid (count_of h) of_h.history (were_unsure of_h) image → StoodAmid (count_of f) of_f.history (were_unsure of_f) image
+      stood image was =
+          subst (λ (x : History). StoodAmid (count_of f) x (were_unsure of_f) image) (sym grows_f)
+          (subst (λ (ps : List Pending). StoodAmid (count_of f) (grown f more) ps image) (were_alike of_h of_f all)
+          (stood_alike image more (were_unsure of_h) h f same (were_since (count_of h) of_h (all_since (count_of h) acts replies (begun_with h) (begins_since h)))
+          (subst (λ (x : History). StoodAmid (count_of h) x (were_unsure of_h) image) (acts_grow acts replies (begun_with h)) was)))
 
-      at_moment : (image : Image) → Reached KeepsStored (g.may_leave disk) image ⊎ StoodFor (count_of h) last unsure image
-          → Reached KeepsStored (g.may_leave disk) image ⊎ StoodFor (count_of f) (grown f more) unsure image
+      at_moment : (image : Image) → Reached KeepsStored (g.may_leave disk) image ⊎ StoodAmid (count_of h) last.history (were_unsure last) image
+          → Reached KeepsStored (g.may_leave disk) image ⊎ StoodAmid (count_of f) of_f.history (were_unsure of_f) image
       at_moment image (inl was) = inl was
-      at_moment image (inr stood) = inr (stood_alike image unsure more h f same (subst (λ (x : History). StoodFor (count_of h) x unsure image) grows stood))
+      at_moment image (inr was) = inr (stood image (subst (λ (k : Kept). StoodAmid (count_of h) k.history (were_unsure k) image) is was))
 
   -- From each history on for which the disk's bytes stood.
   pub each_keeps : (disk later : D) (words : List (List ℕ)) (o : Outcome) (old new : Edges) → IsRunOf true words o old new → Recovers g disk later o → IsTrue o.opened
-      → (first : History) → ImageStandsFor (g.held disk) first → KeepsTheHistory g disk later o.items o.replies first (grown first (accepted_entries o.items o.replies))
+      → (first : History) → ImageStandsFor (g.held disk) first → KeepsTheHistory g disk later o.acts o.replies first (kept_after_all (begun_with first) o.acts o.replies)
   each_keeps disk later words o old new run recovers opened first stands =
-      keeps_alike disk later o.items o.replies (history_of o.first) first (history_of o.last) (alike (g.held disk) (history_of o.first) first (recovers.begins opened).stored stands)
+      keeps_alike disk later o.acts o.replies (history_of o.first) first (kept_at o.last) (alike (g.held disk) (history_of o.first) first (recovers.begins opened).stored stands)
       (run_keeps g disk later words o old new run recovers opened)
 
   -- ---- the next run
 
-  module _ (begun left disk later : D) (items : List Item) (replies : List Reply) (first last : History) (kept : KeepsTheHistory g begun left items replies first last)
+  module _ (begun left disk later : D) (acts : List Act) (replies : List Reply) (first : History) (last : Kept) (kept : KeepsTheHistory g begun left acts replies first last)
       (words : List (List ℕ)) (o : Outcome) (old new : Edges) (run : IsRunOf true words o old new) (recovers : Recovers g disk later o) (opened : IsTrue o.opened) where
     abbrev GoesOn : History → Type 0
-    GoesOn h = KeepsTheHistory g disk later o.items o.replies h (grown h (accepted_entries o.items o.replies))
+    GoesOn h = KeepsTheHistory g disk later o.acts o.replies h (kept_after_all (begun_with h) o.acts o.replies)
 
     go_on : (h : History) → ImageStandsFor (g.held disk) h → GoesOn h
     go_on h stands = each_keeps disk later words o old new run recovers opened h stands
 
     -- On what the earlier run left at its end.
-    pub next_keeps : g.may_leave left (g.held disk) → (start : History) × ((start ≡ last) ⊎ (start ≡ with_entry (unsure_entry items replies) last)) × GoesOn start
-    next_keeps possible = by_unsure (unsure_entry items replies) (kept.stored (g.held disk) possible)
+    pub next_keeps : g.may_leave left (g.held disk) → (start : History) × ((start ≡ last.history) ⊎ (start ≡ with_entry last.unsure last.history)) × GoesOn start
+    next_keeps possible = by_unsure last.unsure (kept.stored (g.held disk) possible)
       where
-        by_unsure : (unsure : Option Entry) → MayStandFor last unsure (g.held disk) → (start : History) × ((start ≡ last) ⊎ (start ≡ with_entry unsure last)) × GoesOn start
-        by_unsure None stands = (last, inl refl, go_on last stands)
-        by_unsure (Some entry) (inl stands) = (last, inl refl, go_on last stands)
-        by_unsure (Some entry) (inr stands) = (grown last (entry ∷ []), inr refl, go_on (grown last (entry ∷ [])) stands)
+        by_unsure : (unsure : Option Entry) → MayStandFor last.history unsure (g.held disk)
+            → (start : History) × ((start ≡ last.history) ⊎ (start ≡ with_entry unsure last.history)) × GoesOn start
+        by_unsure None stands = (last.history, inl refl, go_on last.history stands)
+        by_unsure (Some entry) (inl stands) = (last.history, inl refl, go_on last.history stands)
+        by_unsure (Some entry) (inr stands) = (grown last.history (entry ∷ []), inr refl, go_on (grown last.history (entry ∷ [])) stands)
 
     -- On what was left at some moment of it.
-    abbrev IsFrontOr : Option Entry → History → Type 0
-    IsFrontOr unsure start = ((n : ℕ) × (count_of first ≤ n) × (start ≡ up_to n last)) ⊎ (start ≡ with_entry unsure last)
+    abbrev IsFrontOr : History → Type 0
+    IsFrontOr start =
+        ((n : ℕ) × (count_of first ≤ n) × (start ≡ up_to n last.history))
+        ⊎ ((p : Pending) × Contains (were_unsure last) p × (start ≡ grown (up_to p.length last.history) (p.entry ∷ [])))
 
     pub stopped_keeps : ((image : Image) → g.may_leave begun image → ImageStandsFor image first) → g.left_since left (g.moment begun) (g.held disk)
-        → (start : History) × IsFrontOr (unsure_entry items replies) start × GoesOn start
-    stopped_keeps at_first since = by_image (unsure_entry items replies) (kept_throughout g begun left items replies first last kept at_first (g.held disk) since)
+        → (start : History) × IsFrontOr start × GoesOn start
+    stopped_keeps at_first since = by_image (kept_throughout g begun left acts replies first last kept at_first (g.held disk) since)
       where
-        whole : (unsure : Option Entry) → ImageStandsFor (g.held disk) last → (start : History) × IsFrontOr unsure start × GoesOn start
-        whole unsure stands =
-            (last, inl (count_of last, no_shorter first last (accepted_entries items replies) (told_grows items replies first last kept.told), sym (now_is last)), go_on last stands)
-
-        by_image : (unsure : Option Entry) → StoodFor (count_of first) last unsure (g.held disk) → (start : History) × IsFrontOr unsure start × GoesOn start
-        by_image unsure (inl (n, since_first, below, stands)) = (up_to n last, inl (n, since_first, refl), go_on (up_to n last) stands)
-        by_image None (inr stands) = (last, inr refl, go_on last stands)
-        by_image (Some entry) (inr (inl stands)) = whole (Some entry) stands
-        by_image (Some entry) (inr (inr stands)) = (grown last (entry ∷ []), inr refl, go_on (grown last (entry ∷ [])) stands)
+        by_image : StoodAmid (count_of first) last.history (were_unsure last) (g.held disk) → (start : History) × IsFrontOr start × GoesOn start
+        by_image (inl (n, since_first, below, stands)) = (up_to n last.history, inl (n, since_first, refl), go_on (up_to n last.history) stands)
+        by_image (inr (p, there, below, stands)) =
+            let start = grown (up_to p.length last.history) (p.entry ∷ []) in (start, inr (p, there, refl), go_on start stands)

@@ -1,16 +1,22 @@
 -- What follows where replies tell a history.
-use Rattle.std.proofs.Common.{◌≡◌, ◌+◌, ◌-◌, ◌≤◌, List, [], ◌∷◌, ◌++◌, Ok, append_assoc, append-nil, arith, ap, length, refl, sym, ◌∙◌, subst}
+use Rattle.std.proofs.Common.{◌≡◌, inl, inr, ℕ, zero, suc, ◌+◌, ◌-◌, ◌≤◌, ◌==◌, Bool, true, false, List, [], ◌∷◌, ◌++◌, Option, None, Some, append_assoc, append-nil, arith, ap, length, refl, sym, ◌∙◌, subst, if◌then◌else◌}
 use Rattle.std.proofs.lemmas.List.{take_all}
+use Rattle.std.proofs.lemmas.List.Elements.{Contains-append_cases}
+use Rattle.std.specs.List.{Contains}
 use Rattle.session_text.specs.declared.reply.Reply.{Reply}
-use Rattle.session_text.specs.declared.reply.Reply.TheVariants.{Pushed}
-use Rattle.session_text.specs.declared.request.Request.TheVariants as request
-use Rattle.session_text.specs.Items.{Item}
+use Rattle.session_text.specs.declared.reply.Reply.TheVariants.{Reopened}
 use Rattle.store_entries.specs.declared.entry.Entry.{Entry}
 use Rattle.store_model.specs.History.{History, count_of, grown, up_to}
 use Rattle.store_model.proofs.HistoryLaws.{count_grown}
 use Rattle.store_model.proofs.KeepsHolds.{grown_up}
-use Rattle.session_meaning.specs.Pushes.{accepted_entries, accepted_entry}
-use Rattle.headline.specs.Headline.{Tells, TellTheHistory, TellsFront, after_reply}
+use Rattle.store_reopen.specs.Through.{Pending, pending_now}
+use Rattle.stored_history.specs.Alike.{AreAlike}
+use Rattle.stored_history.proofs.StayAlike.{stay_alike}
+use Rattle.session_meaning.specs.Act.{Act}
+use Rattle.session_meaning.specs.Act.Act.{Ask, Reopen, Unread}
+use Rattle.session_meaning.specs.Kept.{Kept, begun_with, found_again, kept_after, kept_after_all, were_unsure}
+use Rattle.session_meaning.specs.Pushes.{accepted_entry, unsure_after_line}
+use Rattle.headline.specs.Headline.{TellTheHistory, TellsFront, TellsOf}
 
 -- ---- histories
 
@@ -32,50 +38,176 @@ no_shorter h last more is = let all = ap count_of is ∙ count_grown h more in o
 
 -- ---- lines and replies
 
--- After a line the history has what the line added.
-pub line_grows : (h : History) (item : Item) (r : Reply) → after_reply h item r ≡ grown h (accepted_entry item r)
-line_grows h (Ok (request.Push reading moment)) (Pushed number accepted rejected skipped) = refl
-line_grows h _ _ = sym (same_grown h)
+-- the entry that an opening found
+abbrev added_again : Option Entry → ℕ → History → List Entry
+added_again None entries h = []
+added_again (Some entry) entries h = if entries == count_of h then [] else entry ∷ []
 
--- a line after which others added more
-pub one_more : (h last : History) (item : Item) (r : Reply) (more : List Entry) → last ≡ grown (after_reply h item r) more → last ≡ grown h (accepted_entry item r ++ more)
-one_more h last item r more is = is ∙ ap (λ (x : History). grown x more) (line_grows h item r) ∙ grown_twice h (accepted_entry item r) more
+again_grows : (u : Option Entry) (entries : ℕ) (h : History) → found_again u entries h ≡ grown h (added_again u entries h)
+again_grows None entries h = sym (same_grown h)
+again_grows (Some entry) entries h = by_count (entries == count_of h)
+  where
+    by_count : (t : Bool) → (if t then h else grown h (entry ∷ [])) ≡ grown h (if t then [] else entry ∷ [])
+    by_count true = sym (same_grown h)
+    by_count false = refl
 
--- The last history is the first one with all that was accepted.
-pub told_grows : (items : List Item) (replies : List Reply) (h last : History) → TellTheHistory h items replies last → last ≡ grown h (accepted_entries items replies)
-told_grows [] replies h last t = t.1 ∙ sym (same_grown h)
-told_grows (i ∷ is) [] h last t = absurd t
-told_grows (i ∷ is) (r ∷ rs) h last t = one_more h last i r (accepted_entries is rs) (told_grows is rs (after_reply h i r) last t.1)
+-- what a line adds to the history
+abbrev pub added_by : Kept → Act → Reply → List Entry
+added_by k (Ask item) reply = accepted_entry item reply
+added_by k (Reopen moment) (Reopened entries) = added_again k.unsure entries k.history
+added_by k _ _ = []
 
--- One line among others: the history at it, which it tells, and which the others go on from.
-pub record At (h last : History) (before after : List Item) (earlier later : List Reply) (item : Item) (reply : Reply) : Type 0 where
-  pub here : History
-  pub is : here ≡ grown h (accepted_entries before earlier)
-  pub tells : Tells here item reply
-  pub goes_on : TellTheHistory (after_reply here item reply) after later last
+pub act_grows : (k : Kept) (act : Act) (r : Reply) → (kept_after k act r).history ≡ grown k.history (added_by k act r)
+act_grows k (Ask item) r = refl
+act_grows k (Reopen moment) (Reopened entries) = again_grows k.unsure entries k.history
+act_grows k (Reopen moment) _ = sym (same_grown k.history)
+act_grows k Unread r = sym (same_grown k.history)
 
-at_line : (before after : List Item) (earlier later : List Reply) (item : Item) (reply : Reply) (h last : History) → length before ≡ length earlier
-    → TellTheHistory h (before ++ item ∷ after) (earlier ++ reply ∷ later) last → At h last before after earlier later item reply
-at_line [] after [] later item reply h last same t = record { here = h; is = sym (same_grown h); tells = t.0; goes_on = t.1 }
-at_line [] after (r ∷ rs) later item reply h last same t = absurd (omega (arith, same))
-at_line (i ∷ is) after [] later item reply h last same t = absurd (omega (arith, same))
-at_line (i ∷ is) after (r ∷ rs) later item reply h last same t =
-    let rest = at_line is after rs later item reply (after_reply h i r) last (omega (arith, same)) t.1 in record {
-      here = rest.here;
-      is = one_more h rest.here i r (accepted_entries is rs) rest.is;
-      tells = rest.tells;
-      goes_on = rest.goes_on;
+abbrev pub added_all : Kept → List Act → List Reply → List Entry
+added_all k [] replies = []
+added_all k (act ∷ acts) [] = []
+added_all k (act ∷ acts) (reply ∷ replies) = added_by k act reply ++ added_all (kept_after k act reply) acts replies
+
+pub acts_grow : (acts : List Act) (replies : List Reply) (k : Kept) → (kept_after_all k acts replies).history ≡ grown k.history (added_all k acts replies)
+acts_grow [] replies k = sym (same_grown k.history)
+acts_grow (a ∷ more) [] k = sym (same_grown k.history)
+acts_grow (a ∷ more) (r ∷ rs) k =
+    acts_grow more rs (kept_after k a r)
+    ∙ ap (λ (x : History). grown x (added_all (kept_after k a r) more rs)) (act_grows k a r)
+    ∙ grown_twice k.history (added_by k a r) (added_all (kept_after k a r) more rs)
+
+-- what is kept at last is what lines and replies tell
+pub told_kept : (acts : List Act) (replies : List Reply) (k last : Kept) → TellTheHistory k acts replies last → last ≡ kept_after_all k acts replies
+told_kept [] replies k last t = t.1
+told_kept (a ∷ more) [] k last t = absurd t
+told_kept (a ∷ more) (r ∷ rs) k last t = told_kept more rs (kept_after k a r) last t.1
+
+pub told_grows : (acts : List Act) (replies : List Reply) (k last : Kept) → TellTheHistory k acts replies last → last.history ≡ grown k.history (added_all k acts replies)
+told_grows acts replies k last t = ap (λ (x : Kept). x.history) (told_kept acts replies k last t) ∙ acts_grow acts replies k
+
+-- One line among others: what is kept at it, which it tells, and from which the others go on.
+at_line : (before after : List Act) (earlier later : List Reply) (act : Act) (reply : Reply) (k last : Kept) → length before ≡ length earlier
+    → TellTheHistory k (before ++ act ∷ after) (earlier ++ reply ∷ later) last
+    → TellsOf (kept_after_all k before earlier) act reply × TellTheHistory (kept_after (kept_after_all k before earlier) act reply) after later last
+at_line [] after [] later act reply k last same t = t
+at_line [] after (r ∷ rs) later act reply k last same t = absurd (omega (arith, same))
+at_line (a ∷ more) after [] later act reply k last same t = absurd (omega (arith, same))
+at_line (a ∷ more) after (r ∷ rs) later act reply k last same t = at_line more after rs later act reply (kept_after k a r) last (omega (arith, same)) t.1
+
+pub front_told : (first last : Kept) (before after : List Act) (act : Act) (earlier later : List Reply) (reply : Reply) → length before ≡ length earlier
+    → TellTheHistory first (before ++ act ∷ after) (earlier ++ reply ∷ later) last → TellsFront first last before earlier act reply
+front_told first last before after act earlier later reply same t =
+    let here = kept_after_all first before earlier in
+    let at = at_line before after earlier later act reply first last same t in
+    let more = added_all (kept_after here act reply) after later in
+    let all : last.history ≡ grown here.history (added_by here act reply ++ more) =
+    told_grows after later (kept_after here act reply) last at.1 ∙ ap (λ (x : History). grown x more) (act_grows here act reply)
+    ∙ grown_twice here.history (added_by here act reply) more in record {
+      within = no_shorter here.history last.history (added_by here act reply ++ more) all;
+      front = ap (up_to (count_of here.history)) all ∙ as_before here.history (added_by here act reply ++ more);
+      tells = at.0;
     }
 
-pub front_told : (first last : History) (before after : List Item) (item : Item) (earlier later : List Reply) (reply : Reply) → length before ≡ length earlier
-    → TellTheHistory first (before ++ item ∷ after) (earlier ++ reply ∷ later) last → TellsFront first last before earlier item reply
-front_told first last before after item earlier later reply same t =
-    let at = at_line before after earlier later item reply first last same t in
-    let all = one_more at.here last item reply (accepted_entries after later) (told_grows after later (after_reply at.here item reply) last at.goes_on) in
-    let more : List Entry = accepted_entry item reply ++ accepted_entries after later in
-    let front : up_to (count_of at.here) last ≡ at.here = ap (up_to (count_of at.here)) all ∙ as_before at.here more in record {
-      count = count_of at.here;
-      within = no_shorter at.here last more all;
-      front = front ∙ at.is;
-      tells = subst (λ (x : History). Tells x item reply) (sym front) at.tells;
-    }
+-- ---- histories that are told alike
+
+-- The same is kept, with histories that can't be told apart.
+pub record KeptAlike (k l : Kept) : Type 0 where
+  pub histories : AreAlike k.history l.history
+  pub is_open : k.is_open ≡ l.is_open
+  pub unsure : k.unsure ≡ l.unsure
+  pub pending : k.pending ≡ l.pending
+
+pending_alike : (u : Option Entry) (h g : History) → count_of h ≡ count_of g → pending_now h u ≡ pending_now g u
+pending_alike None h g same = refl
+pending_alike (Some entry) h g same = ap (λ (n : ℕ). record { length = n; entry = entry } ∷ []) same
+
+pub were_alike : (k l : Kept) → KeptAlike k l → were_unsure k ≡ were_unsure l
+were_alike k l same =
+    ap (λ (ps : List Pending). ps ++ pending_now k.history k.unsure) same.pending
+    ∙ ap (λ (ps : List Pending). l.pending ++ ps) (pending_alike k.unsure k.history l.history same.histories.counts ∙ ap (pending_now l.history) same.unsure)
+
+again_alike : (u v : Option Entry) (entries : ℕ) (h g : History) → u ≡ v → count_of h ≡ count_of g → added_again u entries h ≡ added_again v entries g
+again_alike u v entries h g same counts = ap (λ (x : Option Entry). added_again x entries h) same ∙ by_entry v
+  where
+    by_entry : (x : Option Entry) → added_again x entries h ≡ added_again x entries g
+    by_entry None = refl
+    by_entry (Some entry) = ap (λ (n : ℕ). if entries == n then [] else entry ∷ []) counts
+
+pub added_alike : (act : Act) (r : Reply) (k l : Kept) → KeptAlike k l → added_by k act r ≡ added_by l act r
+added_alike (Ask item) r k l same = refl
+added_alike (Reopen moment) (Reopened entries) k l same = again_alike k.unsure l.unsure entries k.history l.history same.unsure same.histories.counts
+added_alike (Reopen moment) _ k l same = refl
+added_alike Unread r k l same = refl
+
+after_alike : (act : Act) (r : Reply) (k l : Kept) → KeptAlike k l → AreAlike (kept_after k act r).history (kept_after l act r).history
+after_alike act r k l same =
+    subst (λ (x : History). AreAlike x (kept_after l act r).history) (sym (act_grows k act r))
+    (subst (AreAlike (grown k.history (added_by k act r))) (sym (act_grows l act r))
+    (subst (λ (es : List Entry). AreAlike (grown k.history (added_by k act r)) (grown l.history es)) (added_alike act r k l same)
+    (stay_alike k.history l.history (added_by k act r) same.histories)))
+
+pub line_alike : (act : Act) (r : Reply) (k l : Kept) → KeptAlike k l → KeptAlike (kept_after k act r) (kept_after l act r)
+line_alike (Ask item) r k l same = record {
+  histories = after_alike (Ask item) r k l same;
+  is_open = same.is_open;
+  unsure = ap (λ (u : Option Entry). unsure_after_line u item r) same.unsure;
+  pending = same.pending;
+}
+line_alike (Reopen moment) (Reopened entries) k l same = record {
+  histories = after_alike (Reopen moment) (Reopened entries) k l same;
+  is_open = refl;
+  unsure = refl;
+  pending = were_alike k l same;
+}
+line_alike (Reopen moment) _ k l same = record { histories = same.histories; is_open = refl; unsure = same.unsure; pending = same.pending }
+line_alike Unread r k l same = same
+
+pub all_alike : (acts : List Act) (replies : List Reply) (k l : Kept) → KeptAlike k l → KeptAlike (kept_after_all k acts replies) (kept_after_all l acts replies)
+all_alike [] replies k l same = same
+all_alike (a ∷ more) [] k l same = same
+all_alike (a ∷ more) (r ∷ rs) k l same = all_alike more rs (kept_after k a r) (kept_after l a r) (line_alike a r k l same)
+
+pub added_all_alike : (acts : List Act) (replies : List Reply) (k l : Kept) → KeptAlike k l → added_all k acts replies ≡ added_all l acts replies
+added_all_alike [] replies k l same = refl
+added_all_alike (a ∷ more) [] k l same = refl
+added_all_alike (a ∷ more) (r ∷ rs) k l same =
+    ap (λ (es : List Entry). es ++ added_all (kept_after k a r) more rs) (added_alike a r k l same)
+    ∙ ap (λ (es : List Entry). added_by l a r ++ es) (added_all_alike more rs (kept_after k a r) (kept_after l a r) (line_alike a r k l same))
+
+-- ---- entries that weren't sure
+
+-- The history has at least so many entries, and so it had where an entry wasn't sure.
+pub record Since (least : ℕ) (k : Kept) : Type 0 where
+  pub now : least ≤ count_of k.history
+  pub early : (p : Pending) → Contains k.pending p → least ≤ p.length
+
+now_since : (least : ℕ) (h : History) (u : Option Entry) → least ≤ count_of h → (p : Pending) → Contains (pending_now h u) p → least ≤ p.length
+now_since least h None low p there = absurd (let none = there.1 in omega (arith, none))
+now_since least h (Some entry) low p (zero, less, is) = subst (λ (x : Pending). least ≤ x.length) is low
+now_since least h (Some entry) low p (suc n, less, is) = absurd (omega (arith, less))
+
+pub were_since : (least : ℕ) (k : Kept) → Since least k → (p : Pending) → Contains (were_unsure k) p → least ≤ p.length
+were_since least k since p there = elim (Contains-append_cases k.pending (pending_now k.history k.unsure) p there) [
+  | inl early ↦ since.early p early
+  | inr now ↦ now_since least k.history k.unsure since.now p now
+]
+
+line_since : (least : ℕ) (act : Act) (r : Reply) (k : Kept) → Since least k → Since least (kept_after k act r)
+line_since least act r k since = by_act act r (longer (kept_after k act r).history (added_by k act r) (act_grows k act r))
+  where
+    longer : (h : History) (more : List Entry) → h ≡ grown k.history more → least ≤ count_of h
+    longer h more is = let long = no_shorter k.history h more is in let low = since.now in omega (arith, long, low)
+
+    by_act : (a : Act) (x : Reply) → least ≤ count_of (kept_after k a x).history → Since least (kept_after k a x)
+    by_act (Ask item) x low = record { now = low; early = since.early }
+    by_act (Reopen moment) (Reopened entries) low = record { now = low; early = were_since least k since }
+    by_act (Reopen moment) _ low = record { now = low; early = since.early }
+    by_act Unread x low = record { now = low; early = since.early }
+
+pub all_since : (least : ℕ) (acts : List Act) (replies : List Reply) (k : Kept) → Since least k → Since least (kept_after_all k acts replies)
+all_since least [] replies k since = since
+all_since least (a ∷ more) [] k since = since
+all_since least (a ∷ more) (r ∷ rs) k since = all_since least more rs (kept_after k a r) (line_since least a r k since)
+
+pub begins_since : (h : History) → Since (count_of h) (begun_with h)
+begins_since h = record { now = omega arith; early = λ p there. absurd (let none = there.1 in omega (arith, none)) }

@@ -18,8 +18,12 @@ use Rattle.store_model.specs.History.{History, count_of, grown, up_to}
 use Rattle.store_model.specs.Step.{Machine}
 use Rattle.client_run.specs.Answers.{HasReplied}
 use Rattle.session_meaning.specs.Answering.{at_core}
+use Rattle.session_meaning.specs.Act.{Act}
 use Rattle.session_meaning.specs.At.{history_of}
-use Rattle.session_meaning.specs.Pushes.{accepted_entries, accepted_entry, unsure_entry}
+use Rattle.session_meaning.specs.Kept.{Kept, begun_with, kept_at, were_unsure}
+use Rattle.session_meaning.specs.Place.{history_at, opened_at}
+use Rattle.session_meaning.specs.Pushes.{accepted_entries, accepted_entry}
+use Rattle.store_reopen.specs.Through.{StoodAmid}
 use Rattle.session_meaning.specs.Progress.{AreAnsweredOver}
 use Rattle.session_meaning.specs.Runs.{Edges, IsRunOf, Outcome}
 use Rattle.session_meaning.specs.Session.{Session}
@@ -28,50 +32,53 @@ use Rattle.session_meaning.proofs.CoreSessions.{since_means}
 use Rattle.session_meaning.proofs.Told.{session_grows}
 use Rattle.headline.specs.Headline.{KeepsTheHistory}
 use Rattle.headline.specs.Requests.{HasHistory, KeepsFrom}
-use Rattle.headline.proofs.Telling.{session_tells}
-use Rattle.headline.proofs.Histories.{as_before, no_shorter, told_grows}
+use Rattle.headline.proofs.Telling.{acts_tell_all}
+use Rattle.headline.proofs.Histories.{added_all, as_before, no_shorter, told_grows}
 
 module _ {D : Type 0} (g : Ghosts D) where
   -- ---- a run
 
   pub run_keeps : (disk later : D) (words : List (List ℕ)) (o : Outcome) (old new : Edges) → IsRunOf true words o old new → Recovers g disk later o → IsTrue o.opened
-      → KeepsTheHistory g disk later o.items o.replies (history_of o.first) (history_of o.last)
+      → KeepsTheHistory g disk later o.acts o.replies (history_of o.first) (kept_at o.last)
   run_keeps disk later words o old new run recovers opened = record {
-    told = session_tells o.items o.replies o.first o.last run.session;
+    told = acts_tell_all o.acts o.replies (opened_at o.first) o.last run.session;
     stored = recovers.returned opened;
     any_moment = λ image since. within image (recovers.any_moment image since);
   }
     where
       within : (image : Image) → Reached KeepsStored (g.may_leave disk) image ⊎ (IsTrue o.opened × StandsWithin o image)
-          → Reached KeepsStored (g.may_leave disk) image ⊎ StoodFor (count_of (history_of o.first)) (history_of o.last) (unsure_entry o.items o.replies) image
+          → Reached KeepsStored (g.may_leave disk) image ⊎ StoodAmid (count_of (history_of o.first)) (history_at o.last) (were_unsure (kept_at o.last)) image
       within image (inl kept) = inl kept
       within image (inr was) = inr was.1
 
   pub some_history : (disk later : D) (words : List (List ℕ)) (o : Outcome) (old new : Edges) → IsRunOf true words o old new → Recovers g disk later o → IsTrue o.opened
-      → (first last : History) × ImageStandsFor (g.held disk) first × KeepsTheHistory g disk later o.items o.replies first last
+      → (first : History) × (last : Kept) × ImageStandsFor (g.held disk) first × KeepsTheHistory g disk later o.acts o.replies first last
   some_history disk later words o old new run recovers opened =
-      (history_of o.first, history_of o.last, (recovers.begins opened).stored, run_keeps disk later words o old new run recovers opened)
+      (history_of o.first, kept_at o.last, (recovers.begins opened).stored, run_keeps disk later words o old new run recovers opened)
 
   -- Where all that could be left at first stood for the first history.
-  pub kept_throughout : (disk later : D) (items : List Item) (replies : List Reply) (first last : History) → KeepsTheHistory g disk later items replies first last
+  pub kept_throughout : (disk later : D) (acts : List Act) (replies : List Reply) (first : History) (last : Kept) → KeepsTheHistory g disk later acts replies first last
       → ((image : Image) → g.may_leave disk image → ImageStandsFor image first) → (image : Image) → g.left_since later (g.moment disk) image
-      → StoodFor (count_of first) last (unsure_entry items replies) image
-  kept_throughout disk later items replies first last kept at_first image since = elim (kept.any_moment image since) [
+      → StoodAmid (count_of first) last.history (were_unsure last) image
+  kept_throughout disk later acts replies first last kept at_first image since = elim (kept.any_moment image since) [
     | inl was ↦ begun was
     | inr stood ↦ stood
   ]
     where
-      grows : last ≡ grown first (accepted_entries items replies)
-      grows = told_grows items replies first last kept.told
+      more : List Entry
+      more = added_all (begun_with first) acts replies
 
-      front : up_to (count_of first) last ≡ first
-      front = ap (up_to (count_of first)) grows ∙ as_before first (accepted_entries items replies)
+      grows : last.history ≡ grown first more
+      grows = told_grows acts replies (begun_with first) last kept.told
 
-      begun : Reached KeepsStored (g.may_leave disk) image → StoodFor (count_of first) last (unsure_entry items replies) image
+      front : up_to (count_of first) last.history ≡ first
+      front = ap (up_to (count_of first)) grows ∙ as_before first more
+
+      begun : Reached KeepsStored (g.may_leave disk) image → StoodAmid (count_of first) last.history (were_unsure last) image
       begun was = inl (
         count_of first,
         omega arith,
-        no_shorter first last (accepted_entries items replies) grows,
+        no_shorter first last.history more grows,
         subst (λ (h : History). ImageStandsFor image h) (sym front) (was.2.stands first (at_first was.0 was.1)),
       )
 

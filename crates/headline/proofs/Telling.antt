@@ -3,24 +3,29 @@ use Rattle.std.proofs.Common.{Bool, true, ◌≡◌, inl, inr, ℕ, List, [], �
 use Rattle.otlp_spans.specs.declared.read.Reading.{Reading}
 use Rattle.span_types.specs.declared.errors.Memory.{Memory}
 use Rattle.session_text.specs.declared.reply.Reply.{Reply}
-use Rattle.session_text.specs.declared.reply.Reply.TheVariants.{Cut, CutAll}
+use Rattle.session_text.specs.declared.reply.Reply.TheVariants.{Cut, CutAll, Refused, Reopened}
 use Rattle.session_text.specs.declared.request.Request.TheVariants as request
 use Rattle.session_text.specs.Items.{Item}
 use Rattle.store_model.specs.Event.{Event as event}
-use Rattle.store_model.specs.History.{History, grown}
+use Rattle.store_model.specs.History.{History, count_of, grown}
 use Rattle.store_state.specs.Replies.{push_reply}
 use Rattle.store_state.specs.declared.errors.PushError.{PushError}
 use Rattle.store_state.specs.declared.errors.ReclaimError.{ReclaimError}
 use Rattle.store_state.specs.declared.rounds.Round.{Round}
 use Rattle.store_state.specs.declared.rounds.Round.TheVariants.{Did, Nothing, Refused as NotDone}
 use Rattle.client_run.specs.Answers.{asked_of, compact_reply, counted_of, cut_reply, flush_reply, pushed_reply, reclaimed_reply}
+use Rattle.session_meaning.specs.Act.{Act}
+use Rattle.session_meaning.specs.Act.Act.{Ask, Reopen, Unread}
 use Rattle.session_meaning.specs.At.{At, IsStep, history_of}
+use Rattle.session_meaning.specs.Done.{AreDone, IsDone}
+use Rattle.session_meaning.specs.Kept.{Kept, kept_at}
+use Rattle.session_meaning.specs.Place.{Place, history_at}
 use Rattle.session_meaning.specs.Pushes.{accepted_entry}
-use Rattle.session_meaning.specs.Session.{IsAnsweredOrRefused, Session}
+use Rattle.session_meaning.specs.Session.{IsAnsweredOrRefused}
+use Rattle.session_meaning.proofs.Acts.{found_is, one_kept}
 use Rattle.session_meaning.proofs.Seen.{found_in, trace_in}
 use Rattle.session_meaning.proofs.Told.{push_numbers, session_grows}
-use Rattle.headline.specs.Headline.{Tells, TellTheHistory, after_reply}
-use Rattle.headline.proofs.Histories.{line_grows}
+use Rattle.headline.specs.Headline.{Tells, TellTheHistory, TellsOf}
 
 -- ---- one line
 
@@ -91,9 +96,16 @@ item_grows told item before after r is =
 
 -- ---- lines, one after another
 
-pub session_tells : (items : List Item) (replies : List Reply) (first last : At) → Session true first items replies last → TellTheHistory (history_of first) items replies (history_of last)
-session_tells [] replies first last h = (h.0, ap history_of h.1)
-session_tells (i ∷ is) [] first last h = absurd h
-session_tells (i ∷ is) (r ∷ rs) first last h =
-    let after : history_of h.0 ≡ after_reply (history_of first) i r = item_grows true i first h.0 r h.1 ∙ sym (line_grows (history_of first) i r) in
-    (item_tells i first h.0 r h.1, subst (λ (x : History). TellTheHistory x is rs (history_of last)) after (session_tells is rs h.0 last h.2))
+act_tells : (act : Act) (before after : Place) (r : Reply) → IsDone true act before r after → TellsOf (kept_at before) act r
+act_tells (Ask item) before after r h = (h.0, item_tells item before.store after.store r h.1)
+act_tells (Reopen moment) before after (Reopened entries) h =
+    h.0.count ∙ ap count_of (found_is before.unsure entries (history_at before) (history_of after.store) (h.0.found refl).history h.0.count)
+act_tells (Reopen moment) before after (Refused why) h = tt
+act_tells (Reopen moment) before after _ h = absurd h
+act_tells Unread before after r h = (h.0, h.1)
+
+pub acts_tell_all : (acts : List Act) (replies : List Reply) (first last : Place) → AreDone true first acts replies last → TellTheHistory (kept_at first) acts replies (kept_at last)
+acts_tell_all [] replies first last h = (h.0, ap kept_at h.1)
+acts_tell_all (a ∷ more) [] first last h = absurd h
+acts_tell_all (a ∷ more) (r ∷ rs) first last h =
+    (act_tells a first h.0 r h.1, subst (λ (x : Kept). TellTheHistory x more rs (kept_at last)) (one_kept a first h.0 r h.1) (acts_tell_all more rs h.0 last h.2))

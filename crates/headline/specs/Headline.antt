@@ -1,24 +1,28 @@
 -- The headline, by histories alone: what each reply tells, how the history grows, and what the disk keeps of it. No machine,
 -- no memory and no block is named here. A history is what was stored at first and the pushes that were accepted since, in order.
-use Rattle.std.specs.Prelude.{◌≡◌, ◌⊎◌, ⊤, ◌≤◌, ℕ, List, [], ◌∷◌, length, Ok, Err}
+-- What is kept besides says which pushes aren't sure, since the disk failed, and whether the store is open.
+use Rattle.std.specs.Prelude.{◌≡◌, ◌⊎◌, ⊤, ◌≤◌, true, false, List, [], ◌∷◌, length, Ok, Err}
 use Rattle.disk_model.specs.Crash.{Reached}
 use Rattle.disk_model.specs.Images.{Image}
 use Rattle.disk_model.specs.declared.disk.Device.{Ghosts}
 use Rattle.client_run.specs.Answers.{asked_of, counted_of}
 use Rattle.search_text.specs.Fields.{printed_fields}
+use Rattle.session_text.specs.declared.refusal.Refusal.TheVariants.{Closed}
 use Rattle.session_text.specs.declared.reply.Reply.{Reply}
-use Rattle.session_text.specs.declared.reply.Reply.TheVariants.{Measured, Pushed, Refused, Searched, Traced}
+use Rattle.session_text.specs.declared.reply.Reply.TheVariants.{Measured, Pushed, Refused, Reopened, Searched, Traced}
 use Rattle.session_text.specs.declared.request.Metrics.{Metrics}
 use Rattle.session_text.specs.declared.request.Request.TheVariants as request
 use Rattle.session_text.specs.Items.{Item}
 use Rattle.spanset_eval.specs.declared.results.TraceResult.{TraceResult}
 use Rattle.spanset_eval.specs.declared.series.Series.{Series}
-use Rattle.store_core.specs.Past.{StoodFor}
+use Rattle.store_reopen.specs.Through.{StoodAmid}
 use Rattle.store_images.specs.Stored.{KeepsStored, MayStandFor}
-use Rattle.store_model.specs.History.{History, count_of, grown, pushed, up_to}
+use Rattle.store_model.specs.History.{History, count_of, up_to}
 use Rattle.traceql_metrics.specs.Series.{AreSeries}
 use Rattle.traceql_syntax.specs.Trees.{query_tree}
-use Rattle.session_meaning.specs.Pushes.{accepted_entries, unsure_entry}
+use Rattle.session_meaning.specs.Act.{Act}
+use Rattle.session_meaning.specs.Act.Act.{Ask, Reopen, Unread}
+use Rattle.session_meaning.specs.Kept.{Kept, begun_with, found_again, kept_after, kept_after_all, were_unsure}
 use Rattle.session_meaning.specs.Session.{IsFound, IsTraceIn}
 
 -- ---- a line and its reply
@@ -56,40 +60,42 @@ Tells h (Ok (request.Search s)) reply = ⊥
 Tells h (Ok (request.Metrics m)) reply = ⊥
 Tells h (Ok upkeep) reply = TellsOfNoPush reply
 
--- The history after a line: that of an accepted push gains its spans, and no other line changes it.
-abbrev pub after_reply : History → Item → Reply → History
-after_reply h (Ok (request.Push reading moment)) (Pushed number accepted rejected skipped) = pushed h reading.batch.spans
-after_reply h item reply = h
+-- What a line may be told at what is kept. A reopening tells how many entries the history then has: as many as before, or one more
+-- where an entry wasn't sure. A line is unread, and told so, just in a closed store.
+abbrev pub TellsOf : Kept → Act → Reply → Type 0
+TellsOf k (Ask item) reply = (k.is_open ≡ true) × Tells k.history item reply
+TellsOf k (Reopen moment) (Reopened entries) = entries ≡ count_of (found_again k.unsure entries k.history)
+TellsOf k (Reopen moment) (Refused why) = ⊤
+TellsOf k (Reopen moment) reply = ⊥
+TellsOf k Unread reply = (k.is_open ≡ false) × (reply ≡ Refused Closed)
 
 -- ---- lines and their replies, in order
 
--- Each line has one reply, which tells the history at that line, and after the last line the history is that one.
-abbrev pub TellTheHistory : History → List Item → List Reply → History → Type 0
-TellTheHistory h [] replies last = (replies ≡ []) × (last ≡ h)
-TellTheHistory h (item ∷ items) [] last = ⊥
-TellTheHistory h (item ∷ items) (reply ∷ replies) last =
-    Tells h item reply × TellTheHistory (after_reply h item reply) items replies last
+-- Each line has one reply, which tells what is kept at that line, and after the last line that is kept.
+abbrev pub TellTheHistory : Kept → List Act → List Reply → Kept → Type 0
+TellTheHistory k [] replies last = (replies ≡ []) × (last ≡ k)
+TellTheHistory k (act ∷ acts) [] last = ⊥
+TellTheHistory k (act ∷ acts) (reply ∷ replies) last =
+    TellsOf k act reply × TellTheHistory (kept_after k act reply) acts replies last
 
 -- The reply to a line tells one front of the last history: what there was at first, then each push that was accepted in the
--- lines before it, in order, and nothing else.
-pub record TellsFront (first last : History) (before : List Item) (told : List Reply) (item : Item) (reply : Reply)
-    : Type 0 where
-  pub count : ℕ
-  pub within : count ≤ count_of last
-  pub front : up_to count last ≡ grown first (accepted_entries before told)
-  pub tells : Tells (up_to count last) item reply
+-- lines before it, or that an opening among them found, in order, and nothing else.
+pub record TellsFront (first last : Kept) (before : List Act) (told : List Reply) (act : Act) (reply : Reply) : Type 0 where
+  pub within : count_of (kept_after_all first before told).history ≤ count_of last.history
+  pub front : up_to (count_of (kept_after_all first before told).history) last.history ≡ (kept_after_all first before told).history
+  pub tells : TellsOf (kept_after_all first before told) act reply
 
 -- ---- the disk
 
 -- Lines were answered over a disk, from the disk as it was to the one that was handed back. Replies and disk tell one history,
 -- as it grows from the first to the last.
-pub record KeepsTheHistory {D : Type 0} (g : Ghosts D) (disk later : D) (items : List Item) (replies : List Reply)
-    (first last : History) : Type 0 where
-  pub told : TellTheHistory first items replies last
+pub record KeepsTheHistory {D : Type 0} (g : Ghosts D) (disk later : D) (acts : List Act) (replies : List Reply)
+    (first : History) (last : Kept) : Type 0 where
+  pub told : TellTheHistory (begun_with first) acts replies last
   -- whatever a crash may leave now stands for the last history, or for it and then the first push that was answered
-  -- `disk-fault`
-  pub stored : (image : Image) → g.may_leave later image → MayStandFor last (unsure_entry items replies) image
+  -- `disk-fault` since the last opening that went well
+  pub stored : (image : Image) → g.may_leave later image → MayStandFor last.history last.unsure image
   -- whatever a crash may have left at any moment in between keeps what one could leave at first; or it stands for the
-  -- history at some length from the first one on, or as it may stand now
+  -- history at some length from the first one on; or at that of a push that was answered `disk-fault`, and for that push too
   pub any_moment : (image : Image) → g.left_since later (g.moment disk) image
-      → Reached KeepsStored (g.may_leave disk) image ⊎ StoodFor (count_of first) last (unsure_entry items replies) image
+      → Reached KeepsStored (g.may_leave disk) image ⊎ StoodAmid (count_of first) last.history (were_unsure last) image

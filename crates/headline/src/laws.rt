@@ -16,14 +16,18 @@ ghost use Rattle.session_text.specs.declared.reply.Reply.TheVariants.{Pushed, Re
 ghost use Rattle.session_text.specs.declared.request.Request.{Request};
 ghost use Rattle.session_text.specs.declared.request.Request.TheVariants.{Push};
 ghost use Rattle.session_text.specs.Items.{Item};
-ghost use Rattle.store_core.specs.Past.{StoodFor};
 ghost use Rattle.store_core.specs.Port.{port_of};
 ghost use Rattle.store_images.specs.Stored.{ImageStandsFor};
 ghost use Rattle.store_model.specs.History.{History, count_of, grown, up_to, with_entry};
+ghost use Rattle.store_reopen.specs.Through.{Pending, StoodAmid};
 ghost use Rattle.client_run.specs.Answers.{HasReplied};
+ghost use Rattle.session_meaning.specs.Act.{Act};
 ghost use Rattle.session_meaning.specs.At.{At, history_of};
+ghost use Rattle.session_meaning.specs.Done.{AreDone};
+ghost use Rattle.session_meaning.specs.Place.{Place};
+ghost use Rattle.session_meaning.specs.Kept.{Kept, begun_with, kept_after_all, kept_at, were_unsure};
 ghost use Rattle.session_meaning.specs.Progress.{AreAnsweredOver};
-ghost use Rattle.session_meaning.specs.Pushes.{accepted_entries, accepted_entry, known_pushes, unsure_entry};
+ghost use Rattle.session_meaning.specs.Pushes.{accepted_entries, accepted_entry, known_pushes};
 ghost use Rattle.session_meaning.specs.Runs.{Edges, IsRunOf, Outcome, TellsAll};
 ghost use Rattle.session_meaning.specs.Session.{Session, reply_texts};
 ghost use Rattle.session_meaning.specs.Stops.{Recovers};
@@ -42,20 +46,20 @@ use store_core::Core;
 pub fn the_headline<D: Device>(disk: &D, later: &D)
     ensures answers { (words : List (List ℕ)) (o : Outcome) (old new : Edges)
         → IsRunOf true words o old new
-        → TellTheHistory (history_of o.first) o.items o.replies (history_of o.last) }
+        → TellTheHistory (begun_with (history_of o.first)) o.acts o.replies (kept_at o.last) }
     // And the disk keeps the history that they tell, from one on for which its bytes stood.
     ensures stored { (words : List (List ℕ)) (o : Outcome) (old new : Edges)
         → IsRunOf true words o old new
         → Recovers D.Device.own disk.now later.now o → IsTrue o.opened
-        → (first last : History) × ImageStandsFor (D.held disk.now) first
-        × KeepsTheHistory D.Device.own disk.now later.now o.items o.replies first last }
+        → (first : History) × (last : Kept) × ImageStandsFor (D.held disk.now) first
+        × KeepsTheHistory D.Device.own disk.now later.now o.acts o.replies first last }
     // Where all that a crash could leave at first stood for the first history, all that one left at any moment stands
-    // for it with the first few accepted pushes, or as it may stand after the last line.
-    ensures at_any_moment { (items : List Item) (replies : List Reply) (first last : History)
-        → KeepsTheHistory D.Device.own disk.now later.now items replies first last
+    // for it with the first few accepted pushes, and it may be with one more that was answered `disk-fault`.
+    ensures at_any_moment { (acts : List Act) (replies : List Reply) (first : History) (last : Kept)
+        → KeepsTheHistory D.Device.own disk.now later.now acts replies first last
         → ((image : Image) → D.may_leave disk.now image → ImageStandsFor image first)
         → (image : Image) → D.left_since later.now (D.moment disk.now) image
-        → StoodFor (count_of first) last (unsure_entry items replies) image }
+        → StoodAmid (count_of first) last.history (were_unsure last) image }
 {}
 
 /// Whatever history the disk's bytes stood for, the run goes on from it: it matters to no reply and to no later image
@@ -64,34 +68,37 @@ pub fn each_stored_history_goes_on<D: Device>(disk: &D, later: &D)
     ensures { (words : List (List ℕ)) (o : Outcome) (old new : Edges) → IsRunOf true words o old new
         → Recovers D.Device.own disk.now later.now o → IsTrue o.opened
         → (first : History) → ImageStandsFor (D.held disk.now) first
-        → KeepsTheHistory D.Device.own disk.now later.now o.items o.replies
-        first (grown first (accepted_entries o.items o.replies)) }
+        → KeepsTheHistory D.Device.own disk.now later.now o.acts o.replies
+        first (kept_after_all (begun_with first) o.acts o.replies) }
 {}
 
 /// A run on what an earlier one left goes on with the history that the earlier one kept.
 pub fn the_next_run_goes_on<D: Device>(begun: &D, left: &D, disk: &D, later: &D)
-    // After it ended: with all of that history, with or without the first push that was answered `disk-fault`.
-    ensures after_its_end { (items : List Item) (replies : List Reply) (first last : History)
-        → KeepsTheHistory D.Device.own begun.now left.now items replies first last
+    // After it ended: with all of that history, with or without the push that wasn't sure.
+    ensures after_its_end { (acts : List Act) (replies : List Reply) (first : History) (last : Kept)
+        → KeepsTheHistory D.Device.own begun.now left.now acts replies first last
         → (words : List (List ℕ)) (o : Outcome) (old new : Edges) → IsRunOf true words o old new
         → Recovers D.Device.own disk.now later.now o → IsTrue o.opened
         → D.may_leave left.now (D.held disk.now)
         → (start : History) ×
-        ((start ≡ last) ⊎ (start ≡ with_entry (unsure_entry items replies) last))
-        × KeepsTheHistory D.Device.own disk.now later.now o.items o.replies
-        start (grown start (accepted_entries o.items o.replies)) }
-    // After a crash at any moment of it: with a front of that history which has all that was stored before it. It is
-    // supposed that all that a crash could leave as it began stood for the same history.
-    ensures after_a_crash { (items : List Item) (replies : List Reply) (first last : History)
-        → KeepsTheHistory D.Device.own begun.now left.now items replies first last
+        ((start ≡ last.history) ⊎ (start ≡ with_entry last.unsure last.history))
+        × KeepsTheHistory D.Device.own disk.now later.now o.acts o.replies
+        start (kept_after_all (begun_with start) o.acts o.replies) }
+    // After a crash at any moment of it: with a front of that history which has all that was stored before it, and it
+    // may be a push that was answered `disk-fault` at that front. It is supposed that all that a crash could leave as it
+    // began stood for the same history.
+    ensures after_a_crash { (acts : List Act) (replies : List Reply) (first : History) (last : Kept)
+        → KeepsTheHistory D.Device.own begun.now left.now acts replies first last
         → (words : List (List ℕ)) (o : Outcome) (old new : Edges) → IsRunOf true words o old new
         → Recovers D.Device.own disk.now later.now o → IsTrue o.opened
         → ((image : Image) → D.may_leave begun.now image → ImageStandsFor image first)
         → D.left_since left.now (D.moment begun.now) (D.held disk.now)
-        → (start : History) × (((n : ℕ) × (count_of first ≤ n) × (start ≡ up_to n last))
-        ⊎ (start ≡ with_entry (unsure_entry items replies) last))
-        × KeepsTheHistory D.Device.own disk.now later.now o.items o.replies
-        start (grown start (accepted_entries o.items o.replies)) }
+        → (start : History)
+        × (((n : ℕ) × (count_of first ≤ n) × (start ≡ up_to n last.history))
+        ⊎ ((p : Pending) × Contains (were_unsure last) p
+        × (start ≡ grown (up_to p.length last.history) (p.entry ∷ []))))
+        × KeepsTheHistory D.Device.own disk.now later.now o.acts o.replies
+        start (kept_after_all (begun_with start) o.acts o.replies) }
 {}
 
 /// What is written in a store that was opened is the text of these replies, or a first part of it.
@@ -102,15 +109,15 @@ pub fn replies_are_written()
         → AppendsPrefix old.taken new.taken (reply_texts o.replies) }
 {}
 
-/// Where replies tell a history, each tells one front of the last one: with each push that was accepted before, and no
-/// other.
+/// Where replies tell a history, each tells one front of the last one: with each push that was accepted before, or that
+/// an opening before it found, and no other.
 pub fn each_answer_is_of_a_front()
-    ensures { (first last : History) (before after : List Item) (item : Item)
+    ensures { (first last : Kept) (before after : List Act) (act : Act)
         (earlier later : List Reply)
         → (reply : Reply)
         → length before ≡ length earlier
-        → TellTheHistory first (before ++ item ∷ after) (earlier ++ reply ∷ later) last
-        → TellsFront first last before earlier item reply }
+        → TellTheHistory first (before ++ act ∷ after) (earlier ++ reply ∷ later) last
+        → TellsFront first last before earlier act reply }
 {}
 
 /// The counts of pushes that a session tells never fall.
@@ -127,7 +134,16 @@ pub fn counts_grow()
         → (first last : At) (number accepted rejected skipped further : ℕ)
         → Session told first items (earlier ++ Pushed number accepted rejected skipped ∷ later) last
         → Contains later other → known_pushes other ≡ Some further → number < further }
-    // Accepted pushes are numbered one after another.
+    // So it is over openings, where what the disk holds is told.
+    ensures over_openings { (acts : List Act) (earlier later : List Reply) (one other : Reply)
+        (first last : Place) (count further : ℕ)
+        → AreDone true first acts (earlier ++ one ∷ later) last → Contains later other
+        → known_pushes one ≡ Some count → known_pushes other ≡ Some further → count ≤ further }
+    ensures still_known { (acts : List Act) (earlier later : List Reply) (other : Reply)
+        (first last : Place) (number accepted rejected skipped further : ℕ)
+        → AreDone true first acts (earlier ++ Pushed number accepted rejected skipped ∷ later) last
+        → Contains later other → known_pushes other ≡ Some further → number < further }
+    // Accepted pushes are numbered one after another, from one opening to the next.
     ensures numbered { (told : Bool) (items : List Item) (earlier later : List Reply)
         (first last : At)
         → (number accepted rejected skipped : ℕ)
@@ -135,7 +151,7 @@ pub fn counts_grow()
         → number ≡ count_of (history_of first) + length (accepted_entries items earlier) }
 {}
 
-/// A store that writes no more stays so to the end of a session, and accepts no push.
+/// A store that writes no more stays so until it is opened again, and accepts no push.
 pub fn read_only_stays()
     ensures stays { (told : Bool) (items : List Item) (replies : List Reply) (first last : At)
         (faults : ℕ)

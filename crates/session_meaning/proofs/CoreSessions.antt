@@ -1,26 +1,30 @@
 -- What is answered over the port of a core is a session.
-use Rattle.std.proofs.Common.{◌≡◌, ◌⊎◌, Option, ℕ, Bool, true, false, List, [], ◌∷◌, Ok, Err, IsTrue, refl, sym, ap, subst}
+use Rattle.std.proofs.Common.{◌≡◌, ◌⊎◌, Option, ℕ, Bool, true, false, List, [], ◌∷◌, Ok, Err, IsTrue, refl, sym, ◌∙◌, ap, subst}
 use Rattle.disk_model.specs.declared.disk.Device.{Ghosts}
 use Rattle.session_text.specs.declared.reply.Reply.{Reply}
 use Rattle.session_text.specs.Items.{Item}
 use Rattle.store_model.specs.Step.{Machine}
 use Rattle.store_images.proofs.Lists.{not_in_nil}
 use Rattle.store_model.specs.State.{held_of}
-use Rattle.store_core.specs.Cores.{CoreShows, CoreStandsFor, HasState, held_in}
+use Rattle.store_core.specs.Cores.{CoreShows, CoreStandsFor, HasState, held_in, unsure_of}
 use Rattle.store_core.specs.Past.{StandsSince}
 use Rattle.store_core.specs.Port.{port_of, shown_by}
 use Rattle.store_core.specs.declared.store.Core.{Core}
 use Rattle.store_state.specs.Cores.{CoreKnows}
 use Rattle.store_state.specs.Made.{AreMade, Call}
-use Rattle.client_run.specs.CoreRuns.{HasStepped}
+use Rattle.store_reopen.specs.Through.{KeepsThrough, Pending}
+use Rattle.store_reopen.proofs.Through.{event_goes_on}
+use Rattle.client_run.specs.CoreRuns.{HasStepped, unsure_after_calls}
 use Rattle.client_run.proofs.CallLemmas.{tells_kept}
-use Rattle.client_run.proofs.CoreLemmas.{shows_stepped, since_stepped}
+use Rattle.client_run.proofs.CoreLemmas.{shows_stepped, since_stepped, stepped, unsure_stepped}
 use Rattle.session_meaning.specs.Answering.{CallsLead, IsItemAnswered, at_core}
 use Rattle.session_meaning.specs.Duties.{Duty, Follows, IsDue, due}
-use Rattle.session_meaning.specs.Progress.{AreAnsweredOver, FollowsOver, IsAnsweredOver}
+use Rattle.session_meaning.specs.Progress.{AreAnsweredOver, FollowsOver, HasAnsweredOne, IsAnsweredOver}
+use Rattle.session_meaning.specs.Pushes.{unsure_after_line}
 use Rattle.session_meaning.specs.Session.{IsAnsweredOrRefused, Session}
 use Rattle.session_meaning.proofs.AnswerLaws.{IsItemTold, item_means, item_means_told}
 use Rattle.session_meaning.proofs.Counted.{blocks_counted}
+use Rattle.session_meaning.proofs.Unsure.{after_line, item_unsure}
 
 module _ {D : Type 0} (g : Ghosts D) where
   -- One item was answered over a core by calls that lead from a machine to a machine.
@@ -109,6 +113,13 @@ module _ {D : Type 0} (g : Ghosts D) where
       (λ old new m item reply shows is h. item_means item (at_core g old m) (at_core g new h.machine) reply h.calls shows.state.agrees h.answered h.lead)
       (λ core m shows. held_shown core m shows.state.has)
 
+  -- one line
+  pub one_shown : (old new : Core D) (m : Machine) (item : Item) (reply : Reply) → CoreShows g old m → IsAnsweredOver (port_of g) old item reply new
+      → (m' : Machine) × CoreShows g new m' × IsAnsweredOrRefused false item (at_core g old m) reply (at_core g new m')
+  one_shown old new m item reply shows is =
+      let h = moved (CoreShows g) (shows_stepped g) old new m item reply shows is in
+      (h.machine, h.stands, item_means item (at_core g old m) (at_core g new h.machine) reply h.calls shows.state.agrees h.answered h.lead)
+
   -- ---- where what the blocks hold is told
 
   -- a core knows the history of a machine that it stands for
@@ -154,3 +165,54 @@ module _ {D : Type 0} (g : Ghosts D) where
         (λ old new m item reply since is h. item_means_told item (at_core g old m) (at_core g new h.machine) reply h.calls since.0.stands.stands.agrees h.answered h.lead (item_told old new item reply m since is)
         (blocks_counted g new h.machine h.stands.0.stands h.stands.1))
         (λ core m since. held_shown core m since.0.stands.stands.has)
+
+  -- ---- where that was kept since an earlier disk, over reopenings
+
+  told_of : (old new : Core D) (item : Item) (reply : Reply) (m : Machine) → CoreStandsFor g old m → IsTrue (g.tells old.disk) → IsAnsweredOver (port_of g) old item reply new → IsItemTold m.history item reply
+  told_of old new (Ok asked) reply m stands tells is =
+      let last = is.told tells (record { history = m.history; holds = [] }) (knows_all old m stands) in (last.0.history, last.2, last.3)
+  told_of old new (Err why) reply m stands tells is = tt
+
+  -- the entry that isn't sure is the one that lines and replies tell
+  pub one_unsure : (old new : Core D) (item : Item) (reply : Reply) (m : Machine) → CoreStandsFor g old m → HasAnsweredOne (port_of g) old item reply new
+      → unsure_of new.state ≡ unsure_after_line (unsure_of old.state) item reply
+  one_unsure old new item reply m stands one =
+      unsure_stepped g old new one.calls one.made m stands
+      ∙ item_unsure unsure_after_calls (λ u. refl) (λ c calls u. refl) item reply one.calls (unsure_of old.state) one.answered
+      ∙ after_line (unsure_of old.state) item reply
+
+  module _ (start : D) (least : ℕ) (pending : List Pending) where
+    abbrev pub StandsThrough : Core D → Machine → Type 0
+    StandsThrough core m = CoreStandsFor g core m × IsTrue (g.tells core.disk) × KeepsThrough g start least pending core.disk m.history (unsure_of core.state)
+
+    through_on : (old new : Core D) (calls : List Call) → AreMade (port_of g) old calls new → (m : Machine) → StandsThrough old m → HasStepped g StandsThrough old calls new m
+    through_on = stepped g StandsThrough (λ old new event reply did m has.
+        let s = did.stepped m has.0 in (
+          s.machine,
+          (s.stands, subst IsTrue (sym did.counts.telling) has.1, event_goes_on g old new event reply m start least pending did has.0 has.2),
+          s.step,
+        ))
+
+    pub one_through : (old new : Core D) (m : Machine) (item : Item) (reply : Reply) → StandsThrough old m → IsAnsweredOver (port_of g) old item reply new
+        → (m' : Machine) × StandsThrough new m' × IsAnsweredOrRefused true item (at_core g old m) reply (at_core g new m')
+    one_through old new m item reply has is =
+        let h = moved StandsThrough through_on old new m item reply has is in (
+          h.machine,
+          h.stands,
+          item_means_told item (at_core g old m) (at_core g new h.machine) reply h.calls has.0.stands.agrees h.answered h.lead (told_of old new item reply m has.0 has.1 is)
+              (blocks_counted g new h.machine h.stands.0 h.stands.1),
+        )
+
+    pub through_means : (items : List Item) (replies : List Reply) (first last : Core D) (m : Machine) → StandsThrough first m → AreAnsweredOver (port_of g) first items replies last
+        → (m' : Machine) × StandsThrough last m' × Session true (at_core g first m) items replies (at_core g last m')
+    through_means = over_means StandsThrough through_on true
+        (λ old new m item reply has is h. item_means_told item (at_core g old m) (at_core g new h.machine) reply h.calls has.0.stands.agrees h.answered h.lead (told_of old new item reply m has.0 has.1 is)
+        (blocks_counted g new h.machine h.stands.0 h.stands.1))
+
+    pub through_ingests : (todo : List Duty) (moments : Option (List ℕ)) (items : List Item) (replies : List Reply) (first last : Core D) (m : Machine) (left : List Duty) (to_tell : Option (List ℕ))
+        → StandsThrough first m → FollowsOver g todo moments first items replies last left to_tell
+        → (m' : Machine) × StandsThrough last m' × Follows true todo moments (at_core g first m) items replies (at_core g last m') left to_tell
+    through_ingests = ingest_means StandsThrough through_on true
+        (λ old new m item reply has is h. item_means_told item (at_core g old m) (at_core g new h.machine) reply h.calls has.0.stands.agrees h.answered h.lead (told_of old new item reply m has.0 has.1 is)
+        (blocks_counted g new h.machine h.stands.0 h.stands.1))
+        (λ core m has. held_shown core m has.0.stands.has)

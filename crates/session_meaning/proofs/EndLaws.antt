@@ -1,5 +1,5 @@
 -- A run in which no call failed comes to its own end.
-use Rattle.std.proofs.Common.{◌≡◌, ◌⊎◌, inl, inr, ◌∙◌, ℕ, ◌+◌, ◌≤◌, Bool, true, false, List, Option, Some, None, ap, arith, length, length-append, refl, subst, if◌then◌else◌}
+use Rattle.std.proofs.Common.{◌≡◌, ◌⊎◌, inl, inr, ◌∙◌, ℕ, ◌+◌, ◌≤◌, Bool, true, false, List, Option, Some, None, ap, arith, length, length-append, map, refl, subst, if◌then◌else◌}
 use Rattle.std.specs.Prelude.{IfSome}
 use Rattle.std.specs.List.{list_any}
 use Rattle.clap.specs.Words.{Kinds}
@@ -12,9 +12,15 @@ use Rattle.io_edges.specs.Reader.{TakesBytes}
 use Rattle.session_text.specs.declared.reply.Reply.{Reply}
 use Rattle.session_meaning.specs.declared.ending.Ending.{Ending}
 use Rattle.session_meaning.specs.declared.ending.Ending.TheVariants.{Answered, BadWords, NotOpened, NotStore, ReadFault, Refused, Spent, Starved, WriteFault}
+use Rattle.session_text.specs.Items.{Item}
+use Rattle.session_meaning.specs.Act.{Act}
+use Rattle.session_meaning.specs.Act.Act.{Ask}
+use Rattle.session_meaning.specs.Done.{AreDone}
+use Rattle.session_meaning.specs.Place.{opened_at}
 use Rattle.session_meaning.specs.Pushes.{HasRoomFor}
 use Rattle.session_meaning.specs.Runs.{ComesToItsEnd, DoesInStore, Edges, EndsUnopened, FitsWords, GoesWell, HasAnswered, HasCause, HasIngested, HasItsStore, HasRun, IsNoStore, IsRunOf, NeedsNoSource, Outcome, ReadsWell}
 use Rattle.session_meaning.specs.Session.{Ends, EndsAlone, Session, end_of, is_for_memory, is_refusal, is_refused}
+use Rattle.session_meaning.proofs.Acts.{asks_session}
 use Rattle.session_meaning.proofs.Room.{replies_plain}
 
 -- As many bytes as were taken are in the text.
@@ -117,13 +123,18 @@ module _ (sure : Bool) (words : List (List ℕ)) (o : Outcome) (old new : Edges)
   store_well ingest well = well.0
   store_well (Alone line) well = well.0
 
-  pub run_ends_well : sure ≡ true → (c : Command) → Spells words c → GoesWell c old new → (before : List ℕ) → old.taken ≡ Some before → list_any is_refused o.items ≡ false
-      → HasRoomFor o.items o.first.machine → (o.ending ≡ Answered) ⊎ (o.ending ≡ Starved)
-  run_ends_well is_true c s well before told none room = go (run_ends c s well)
+  pub run_ends_well : sure ≡ true → (c : Command) → Spells words c → GoesWell c old new → (before : List ℕ) → old.taken ≡ Some before → (items : List Item) → o.acts ≡ map Ask items
+      → list_any is_refused items ≡ false → HasRoomFor items o.first.machine → (o.ending ≡ Answered) ⊎ (o.ending ≡ Starved)
+  run_ends_well is_true c s well before told items are none room = go (run_ends c s well)
     where
+      all : Session true o.first items o.replies o.last.store
+      all = asks_session true items o.replies (opened_at o.first) o.last
+          (subst (λ (b : Bool). AreDone b (opened_at o.first) (map Ask items) o.replies o.last) is_true
+          (subst (λ (as_done : List Act). AreDone sure (opened_at o.first) as_done o.replies o.last) are run.session))
+
       never : o.ending ≡ Refused → ⊥
       never e = elim (run.does c s) [
-        | inl did ↦ end_plain o.replies (replies_plain o.first o.last o.items o.replies old.disk_faults new.disk_faults (subst (λ (b : Bool). Session b o.first o.items o.replies o.last) is_true run.session) (let first = did.1.first_faults in omega (arith, first)) did.1.last_faults (store_well c well).3 room none) (refused_in c well before told did.3 e)
+        | inl did ↦ end_plain o.replies (replies_plain o.first o.last.store items o.replies old.disk_faults new.disk_faults all (let first = did.1.first_faults in omega (arith, first)) did.1.last_faults (store_well c well).3 room none) (refused_in c well before told did.3 e)
         | inr not ↦ subst (λ (k : Ending). EndsUnopened k old new.taken) e not.1.ends
       ]
 

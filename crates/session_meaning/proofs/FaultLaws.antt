@@ -38,7 +38,7 @@ use Rattle.session_meaning.specs.Session.{IsAnsweredOrRefused, Session}
 pub rose_none : (a b : ℕ) → b ≡ a → RoseBy 0 a b
 rose_none a b same = record { later = omega (arith, same); at_most = omega (arith, same); exact = λ room. omega (arith, same) }
 
-rose_then : (m n a b c : ℕ) → RoseBy m a b → RoseBy n b c → RoseBy (m + n) a c
+pub rose_then : (m n a b c : ℕ) → RoseBy m a b → RoseBy n b c → RoseBy (m + n) a c
 rose_then m n a b c first second =
     let one = first.later in
     let two = second.later in
@@ -52,7 +52,7 @@ rose_then m n a b c first second =
 abbrev number : Bool → ℕ
 number failed = if failed then 1 else 0
 
-flagged : (failed : Bool) (a b : ℕ) → IsCounted failed a b → RoseBy (number failed) a b
+pub flagged : (failed : Bool) (a b : ℕ) → IsCounted failed a b → RoseBy (number failed) a b
 flagged true a b rose = raised_by a b rose
 flagged false a b same = rose_none a b same
 
@@ -169,7 +169,7 @@ module _ (r : Reply) (before after : At) where
   by_still : (failed : Bool) (other : Reply) → r ≡ other → faults_in other ≡ number failed → IsUnchanged failed before after → Counted
   by_still failed other is so still = as_told (number failed) other is so (flagged failed before.faults after.faults still.2)
 
-  item_counts : (sure : Bool) (item : Item) → IsAnsweredOrRefused sure item before r after → blames_disk item ≡ false → Counted
+  pub item_counts : (sure : Bool) (item : Item) → IsAnsweredOrRefused sure item before r after → blames_disk item ≡ false → Counted
   item_counts sure (Ok (request.Push reading moment)) (inl (answer, is, step)) none =
       by_step (event.Push reading.batch.spans moment) (push_reply answer) (pushed_reply reading answer) is (push_fault reading answer) step
   item_counts sure (Ok (request.Push reading moment)) (inr bad) none = absurd bad

@@ -1,6 +1,6 @@
 -- No line is refused in reading for a fault of the disk, so each run tells of all that were.
 use Rattle.std.specs.Prelude.{⊤}
-use Rattle.std.proofs.Common.{◌≡◌, ◌≢◌, inl, inr, ◌∙◌, ℕ, Bool, true, false, ◌||◌, nat_le, List, [], ◌∷◌, ◌++◌, codes, Option, Some, None, Result, Ok, Err, if◌then◌else◌, length, refl, sym, ap, subst}
+use Rattle.std.proofs.Common.{◌≡◌, ◌≢◌, inl, inr, ◌∙◌, ℕ, Bool, true, false, ◌||◌, nat_le, List, [], ◌∷◌, ◌++◌, codes, Option, Some, None, Result, Ok, Err, if◌then◌else◌, length, map, refl, sym, ap, subst}
 use Rattle.std.specs.Prelude.{IfSome}
 use Rattle.std.specs.Str.{bytes_eq, is_utf8}
 use Rattle.std.specs.List.{list_any}
@@ -26,12 +26,16 @@ use Rattle.session_text.specs.Requests.{Answers, AsksAt, AsksPush, Line, alone, 
 use Rattle.session_text.specs.Searches.{of_check, of_parse}
 use Rattle.session_meaning.specs.declared.ending.Ending.{Ending}
 use Rattle.session_meaning.specs.declared.ending.Ending.TheVariants.{Answered, BadWords, NotOpened, NotStore, ReadFault, Refused, Spent, Starved, WriteFault}
+use Rattle.session_meaning.specs.Act.{Act, ComesTo}
+use Rattle.session_meaning.specs.Act.Act.{Ask, Reopen, Unread}
 use Rattle.session_meaning.specs.Asked.{AreAsked, after_moment}
-use Rattle.session_meaning.specs.Causes.{blames_disk, disk_faults, is_disk_fault}
+use Rattle.session_meaning.specs.Causes.{act_blames_disk, blames_disk, disk_faults, is_disk_fault}
 use Rattle.session_meaning.specs.Ingest.{Asks, AsksLine, AtTheEnd, Compacts, Far, Ingests, KeptSmall, LinesPushed, Part, Pushes, Stand, Then}
-use Rattle.session_meaning.specs.Ingest.Far.{stopped, whole}
+use Rattle.session_meaning.specs.Ingest.Far.{so_far, whole}
 use Rattle.session_meaning.specs.Runs.{CameSoFar, DoesInStore, Edges, HasAnswered, HasIngested, HasRun, IsRunOf, Outcome, TellsAll}
-use Rattle.session_meaning.proofs.FaultLaws.{rose_none, session_counts}
+use Rattle.session_meaning.specs.Place.{opened_at}
+use Rattle.session_meaning.proofs.Acts.{acts_count}
+use Rattle.session_meaning.proofs.FaultLaws.{both_none, rose_none}
 
 -- ---- one line
 
@@ -140,12 +144,26 @@ push_asked_none moment line item a = answers_none (push_of moment line) [] item 
 add_none : (item : Item) (items : List Item) → blames_disk item ≡ false → list_any blames_disk items ≡ false → list_any blames_disk (item ∷ items) ≡ false
 add_none item items here later = ap (λ (b : Bool). b || list_any blames_disk items) here ∙ later
 
-all_none : (lines : List (List ℕ)) (moments : Option (List ℕ)) (items : List Item) (refused : List (List ℕ)) → AreAsked lines moments items refused → list_any blames_disk items ≡ false
-all_none [] moments items refused a = ap (list_any blames_disk) a.0
-all_none ([] ∷ lines) moments items refused a = all_none lines moments items refused a
+act_none : (act : Act) (acts : List Act) → act_blames_disk act ≡ false → list_any act_blames_disk acts ≡ false → list_any act_blames_disk (act ∷ acts) ≡ false
+act_none act acts here later = ap (λ (b : Bool). b || list_any act_blames_disk acts) here ∙ later
+
+come_none : (moment : ℕ) (line : List ℕ) (refused : List (List ℕ)) (act : Act) → ComesTo moment line refused act → act_blames_disk act ≡ false
+come_none moment line refused (Ask item) comes = asked_none moment line refused item comes.1
+come_none moment line refused (Reopen at) comes = refl
+come_none moment line refused Unread comes = refl
+
+all_none : (lines : List (List ℕ)) (moments : Option (List ℕ)) (acts : List Act) (refused : List (List ℕ)) → AreAsked lines moments acts refused → list_any act_blames_disk acts ≡ false
+all_none [] moments acts refused a = ap (list_any act_blames_disk) a.0
+all_none ([] ∷ lines) moments acts refused a = all_none lines moments acts refused a
 all_none ((b ∷ bs) ∷ lines) moments [] refused a = absurd a
-all_none ((b ∷ bs) ∷ lines) moments (item ∷ items) refused (now, later, are, next, rest) =
-    add_none item items (asked_none next.0 (b ∷ bs) now item next.2) (all_none lines (after_moment moments) items later rest)
+all_none ((b ∷ bs) ∷ lines) moments (act ∷ acts) refused (now, later, are, next, rest) =
+    act_none act acts (come_none next.0 (b ∷ bs) now act next.2) (all_none lines (after_moment moments) acts later rest)
+
+mapped_none : (items : List Item) → list_any blames_disk items ≡ false → list_any act_blames_disk (map Ask items) ≡ false
+mapped_none [] none = refl
+mapped_none (i ∷ is) none =
+    let parts = both_none (blames_disk i) (list_any blames_disk is) none in
+    act_none (Ask i) (map Ask is) parts.0 (mapped_none is parts.1)
 
 -- ---- the parts of an ingest
 
@@ -162,7 +180,7 @@ joined_none (x ∷ xs) ys first later = go (blames_disk x) refl first (λ rest. 
     go false is rest more = add_none x (xs ++ ys) is (more rest)
 
 then_none : (one two : Part) → BlamesNone one → BlamesNone two → BlamesNone (Then one two)
-then_none one two first next before after items replies far (inl halt) = first before after items replies stopped halt.0
+then_none one two first next before after items replies far (inl halt) = first before after items replies so_far halt.0
 then_none one two first next before after items replies far (inr (mid, xs, ys, rs, ss, items_are, replies_are, done, rest)) =
     ap (list_any blames_disk) items_are ∙ joined_none xs ys (first before mid xs rs whole done) (next mid after ys ss far rest)
 
@@ -209,12 +227,12 @@ pushes_none sure lines before after items replies h =
 came_none : (sure : Bool) (e : Ending) (all pushed : List (List ℕ)) (before after : Stand) (items : List Item) (replies : List Reply) → CameSoFar sure e all pushed before items replies after
     → list_any blames_disk items ≡ false
 came_none sure Answered all pushed before after items replies h = ingest_none sure all before after items replies whole h
-came_none sure WriteFault all pushed before after items replies h = ingest_none sure all before after items replies stopped h
-came_none sure BadWords all pushed before after items replies h = ingest_none sure all before after items replies stopped h
+came_none sure WriteFault all pushed before after items replies h = ingest_none sure all before after items replies so_far h
+came_none sure BadWords all pushed before after items replies h = ingest_none sure all before after items replies so_far h
 came_none sure ReadFault all pushed before after items replies h = pushes_none sure pushed before after items replies h
-came_none sure NotOpened all pushed before after items replies h = ingest_none sure all before after items replies stopped h
-came_none sure (NotStore file at) all pushed before after items replies h = ingest_none sure all before after items replies stopped h
-came_none sure Starved all pushed before after items replies h = ingest_none sure all before after items replies stopped h
+came_none sure NotOpened all pushed before after items replies h = ingest_none sure all before after items replies so_far h
+came_none sure (NotStore file at) all pushed before after items replies h = ingest_none sure all before after items replies so_far h
+came_none sure Starved all pushed before after items replies h = ingest_none sure all before after items replies so_far h
 came_none sure Refused all pushed before after items replies h = ingest_none sure all before after items replies whole h
 came_none sure Spent all pushed before after items replies h = pushes_none sure pushed before after items replies h
 
@@ -223,24 +241,25 @@ came_none sure Spent all pushed before after items replies h = pushes_none sure 
 some_is : {T : Type 0} (o : Option T) (x : T) (P : T → Type 0) → o ≡ Some x → IfSome o P → P x
 some_is {T} o x P is has = subst (λ (p : Option T). IfSome p P) is has
 
-items_none : (sure : Bool) (c : Command) (o : Outcome) (old new : Edges) → TellsAll c old → DoesInStore sure c o old new → list_any blames_disk o.items ≡ false
-items_none sure session o old new (text, before, source, sink) did =
+acts_none : (sure : Bool) (c : Command) (o : Outcome) (old new : Edges) → TellsAll c old → DoesInStore sure c o old new → list_any act_blames_disk o.acts ≡ false
+acts_none sure session o old new (text, before, source, sink) did =
     let ran = some_is old.taken before (λ b. HasRun text b o old new) sink (some_is old.left text (λ t. IfSome old.taken (λ b. HasRun t b o old new)) source did) in
-    all_none ran.answered (after_moment old.moments) o.items o.refused ran.asked
-items_none sure ingest o old new (text, before, source, sink) did =
+    all_none ran.answered (after_moment old.moments) o.acts o.refused ran.asked
+acts_none sure ingest o old new (text, before, source, sink) did =
     let ran = some_is old.taken before (λ b. HasIngested sure text b o old new) sink (some_is old.left text (λ t. IfSome old.taken (λ b. HasIngested sure t b o old new)) source did) in
-    came_none sure o.ending (lines text) ran.pushed (record { store = o.first; moments = after_moment old.moments }) (record { store = o.last; moments = new.moments }) o.items o.replies ran.asked
-items_none sure (Alone line) o old new (before, sink) did =
+    ap (list_any act_blames_disk) ran.acts_are
+    ∙ mapped_none ran.items (came_none sure o.ending (lines text) ran.pushed (record { store = o.first; moments = after_moment old.moments }) (record { store = o.last.store; moments = new.moments }) ran.items o.replies ran.asked)
+acts_none sure (Alone line) o old new (before, sink) did =
     let ran = some_is old.taken before (λ b. HasAnswered line b o old new) sink did.1 in
-    ap (list_any blames_disk) ran.items_are
-    ∙ add_none ran.item [] (asked_none ran.asked.0 line o.refused ran.item ran.asked.2) refl
+    ap (list_any act_blames_disk) ran.acts_are
+    ∙ act_none (Ask ran.item) [] (asked_none ran.asked.0 line o.refused ran.item ran.asked.2) refl
 
 pub run_counts : (sure : Bool) (words : List (List ℕ)) (c : Command) (o : Outcome) (old new : Edges) → Spells words c → IsRunOf sure words o old new → TellsAll c old → o.ending ≢ NotOpened
     → RoseBy (disk_faults o.replies) old.disk_faults new.disk_faults
 run_counts sure words c o old new spells run tells not = elim (run.does c spells) [
   | inl did ↦ subst (λ (n : ℕ). RoseBy (disk_faults o.replies) n new.disk_faults) did.1.first_faults
       (subst (λ (n : ℕ). RoseBy (disk_faults o.replies) o.first.faults n) did.1.last_faults
-      (session_counts sure o.items o.replies o.first o.last run.session (items_none sure c o old new tells did.3)))
+      (acts_count sure o.acts o.replies (opened_at o.first) o.last run.session (acts_none sure c o old new tells did.3)))
   | inr other ↦ subst (λ (rs : List Reply). RoseBy (disk_faults rs) old.disk_faults new.disk_faults) (sym other.1.no_replies)
       (rose_none old.disk_faults new.disk_faults (other.1.quiet not))
 ]

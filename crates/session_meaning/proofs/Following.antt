@@ -11,7 +11,7 @@ use Rattle.session_meaning.specs.declared.ending.Ending.TheVariants.{Answered, B
 use Rattle.session_meaning.specs.At.{At}
 use Rattle.session_meaning.specs.Duties.{Duty, Follows, IsDue, IsLeft, ask, at_the_end, compact_all, due, due_at, duties, from_lines, keep_small, most_rounds, push}
 use Rattle.session_meaning.specs.Ingest.{AsksLine, AsksNothing, Asks, AtTheEnd, Compacts, Far, Ingests, KeptSmall, LinesPushed, Part, Pushes, Stand, Then, is_joined, many_rows}
-use Rattle.session_meaning.specs.Ingest.Far.{stopped, whole}
+use Rattle.session_meaning.specs.Ingest.Far.{so_far, whole}
 use Rattle.session_meaning.specs.Runs.{CameSoFar}
 use Rattle.session_meaning.specs.Session.{IsAnsweredOrRefused}
 use Rattle.session_meaning.proofs.IngestRounds.{one_joined}
@@ -81,7 +81,7 @@ module _ (sure : Bool) where
   -- The run stopped in this part, and more than the rest is left; or it came to its end, and the rest was followed.
   abbrev Peeled : Part → List Duty → Stand → List Item → List Reply → At → List Duty → Option (List ℕ) → Type 0
   Peeled part rest before items replies last left to_tell =
-      (part before items replies (stand last to_tell) stopped × (1 + weight rest ≤ weight left))
+      (part before items replies (stand last to_tell) so_far × (1 + weight rest ≤ weight left))
       ⊎ ((mid : Stand) × (xs ys : List Item) × (rs ss : List Reply) × (items ≡ xs ++ ys) × (replies ≡ rs ++ ss)
       × part before xs rs mid whole × Follows sure rest mid.moments mid.store ys ss last left to_tell)
 
@@ -174,10 +174,10 @@ module _ (sure : Bool) where
 
   -- the run stopped before it was looked at how many rows the store holds
   small_idle : (told to_tell : Option (List ℕ)) (replies : List Reply) (first last : At) → AsksNothing (stand first told) [] replies (stand last to_tell)
-      → KeptSmall sure (stand first told) [] replies (stand last to_tell) stopped
+      → KeptSmall sure (stand first told) [] replies (stand last to_tell) so_far
   small_idle told to_tell replies first last nothing = go (nat_le many_rows (held_of first.machine.state)) refl
     where
-      go : (b : Bool) → nat_le many_rows (held_of first.machine.state) ≡ b → KeptSmall sure (stand first told) [] replies (stand last to_tell) stopped
+      go : (b : Bool) → nat_le many_rows (held_of first.machine.state) ≡ b → KeptSmall sure (stand first told) [] replies (stand last to_tell) so_far
       go true is = inr (many_held (held_of first.machine.state) is, inl (inl (nothing, refl), refl))
       go false is = inl (few_held (held_of first.machine.state) is, nothing)
 
@@ -352,19 +352,19 @@ module _ (sure : Bool) where
 
   -- What came to its end may be said to have stopped.
   eased_then : (one two : Part) (before after : Stand) (items : List Item) (replies : List Reply)
-      → ((mid : Stand) (ys : List Item) (ss : List Reply) → two mid ys ss after whole → two mid ys ss after stopped)
-      → Then one two before items replies after whole → Then one two before items replies after stopped
+      → ((mid : Stand) (ys : List Item) (ss : List Reply) → two mid ys ss after whole → two mid ys ss after so_far)
+      → Then one two before items replies after whole → Then one two before items replies after so_far
   eased_then one two before after items replies eases (inl halt) = inl (halt.0, refl)
   eased_then one two before after items replies eases (inr (mid, xs, ys, rs, ss, items_are, replies_are, done, rest)) =
       inr (mid, xs, ys, rs, ss, items_are, replies_are, done, eases mid ys ss rest)
 
   eased_ask : (request : Request) (before after : Stand) (items : List Item) (replies : List Reply) → Asks sure request before items replies after whole
-      → Asks sure request before items replies after stopped
+      → Asks sure request before items replies after so_far
   eased_ask request before after items replies (inl nothing) = inl (nothing.0, refl)
   eased_ask request before after items replies (inr done) = inr done
 
   eased : (source : List (List ℕ)) (before after : Stand) (items : List Item) (replies : List Reply) → Ingests sure source before items replies after whole
-      → Ingests sure source before items replies after stopped
+      → Ingests sure source before items replies after so_far
   eased source before after items replies =
       eased_then (KeptSmall sure) (Then (LinesPushed sure source) (AtTheEnd sure)) before after items replies (λ m is rs.
       eased_then (LinesPushed sure source) (AtTheEnd sure) m after is rs (λ n js ss.
@@ -373,13 +373,13 @@ module _ (sure : Bool) where
       eased_then (Compacts sure) (Asks sure Reclaim) p after ls us (λ q ms vs. eased_ask Reclaim q after ms vs)))))
 
   pub stops_somewhere : (source : List (List ℕ)) (told to_tell : Option (List ℕ)) (left : List Duty) (items : List Item) (replies : List Reply) (first last : At)
-      → Follows sure (duties source) told first items replies last left to_tell → Ingests sure source (stand first told) items replies (stand last to_tell) stopped
+      → Follows sure (duties source) told first items replies last left to_tell → Ingests sure source (stand first told) items replies (stand last to_tell) so_far
   stops_somewhere source told to_tell left items replies first last h = by_all (peel_all source told to_tell items replies first last left h)
     where
-      by_all : Peeled (Ingests sure source) [] (stand first told) items replies last left to_tell → Ingests sure source (stand first told) items replies (stand last to_tell) stopped
+      by_all : Peeled (Ingests sure source) [] (stand first told) items replies last left to_tell → Ingests sure source (stand first told) items replies (stand last to_tell) so_far
       by_all (inl halt) = halt.0
       by_all (inr (mid, xs, ys, rs, ss, items_are, replies_are, done, later)) =
-          all_of (Ingests sure source) stopped (stand first told) mid (stand last to_tell) items xs ys replies rs ss items_are replies_are
+          all_of (Ingests sure source) so_far (stand first told) mid (stand last to_tell) items xs ys replies rs ss items_are replies_are
           (nothing_more mid.moments to_tell ys ss mid.store last left later) (eased source (stand first told) mid xs rs done)
 
   pub ends_whole : (source : List (List ℕ)) (told to_tell : Option (List ℕ)) (items : List Item) (replies : List Reply) (first last : At)

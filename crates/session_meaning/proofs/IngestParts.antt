@@ -6,10 +6,10 @@ use Rattle.session_text.specs.declared.request.Request.TheVariants.{Compact, Cut
 use Rattle.session_text.specs.Items.{Item}
 use Rattle.session_meaning.specs.At.{At}
 use Rattle.session_meaning.specs.Ingest.{AreJoined, Asks, AsksLine, AsksNothing, AtTheEnd, Compacts, Far, HasFinished, Ingests, KeptSmall, LinesPushed, Part, Pushes, Stand, Then, is_joined}
-use Rattle.session_meaning.specs.Ingest.Far.{stopped, whole}
+use Rattle.session_meaning.specs.Ingest.Far.{so_far, whole}
 use Rattle.session_meaning.specs.Session.{IsAnsweredOrRefused, Session}
 
-not_stopped : whole ≡ stopped → ⊥
+not_stopped : whole ≡ so_far → ⊥
 not_stopped e = cc
 
 module _ (sure : Bool) where
@@ -37,7 +37,7 @@ module _ (sure : Bool) where
       (subst (λ (rs : List Reply). Session sure before (item ∷ []) rs after) (sym told) (after, answered, (refl, refl)))
 
   both_session : (one two : Part) → MakesSession one → MakesSession two → MakesSession (Then one two)
-  both_session one two first next before after items replies far (inl halt) = first before after items replies stopped halt.0
+  both_session one two first next before after items replies far (inl halt) = first before after items replies so_far halt.0
   both_session one two first next before after items replies far (inr (mid, xs, ys, rs, ss, items_are, replies_are, done, rest)) =
       subst (λ (is : List Item). Session sure before.store is replies after.store) (sym items_are)
       (subst (λ (qs : List Reply). Session sure before.store (xs ++ ys) qs after.store) (sym replies_are)

@@ -15,15 +15,17 @@ mod Pushless
 pub mod AnswerLaws
 pub mod SessionLaws
 pub mod Told
-mod Kept
 mod PushCauses
 mod Room
+mod LineRoom
 mod ReadOnly
 mod FaultLaws
+pub mod Acts
 mod FaultRuns
 mod Counted
 pub mod OnDisk
 pub mod CoreSessions
+pub mod StoreSessions
 pub mod EndLaws
 pub mod Unsure
 pub mod IngestLaws

@@ -90,7 +90,7 @@ not_below : (a b : ℕ) → b ≤ a → nat_lt a b ≡ false
 not_below a b h = search rules
 
 -- its reply isn't sure
-unsure : (m : Machine) (spans : List Span) (moment : ℕ) → m.read_only ≡ None → count_of m.history + 1 ≤ 4294967295 → held_of m.state + length spans ≤ 262144
+pub unsure : (m : Machine) (spans : List Span) (moment : ℕ) → m.read_only ≡ None → count_of m.history + 1 ≤ 4294967295 → held_of m.state + length spans ≤ 262144
     → early m (Push spans moment) ≡ None
 unsure m spans moment writes pushes rows =
     ap (λ (o : Option ℕ). if_read_only o (if_full (count_of m.history) (held_of m.state) (length spans))) writes
@@ -98,7 +98,7 @@ unsure m spans moment writes pushes rows =
     ∙ test_no (nat_lt 262144 (held_of m.state + length spans)) _ _ (not_below 262144 (held_of m.state + length spans) rows)
 
 -- it is accepted, or memory runs out
-data Taken (spans : List Span) (moment : ℕ) (m : Machine) (r : reply) (m' : Machine) : Type 0 where
+pub data Taken (spans : List Span) (moment : ℕ) (m : Machine) (r : reply) (m' : Machine) : Type 0 where
   kept : r ≡ Count (count_of m.history) → m'.history ≡ pushed m.history spans → m'.read_only ≡ m.read_only
       → held_of m'.state ≡ held_of m.state + length spans → m'.state.next_file ≡ m.state.next_file → (HasNoJob m → HasNoJob m') → Taken spans moment m r m'
   starved : r ≡ Refused cause.Memory → m' ≡ m → Taken spans moment m r m'
@@ -114,7 +114,7 @@ more_held u n moment spans =
     let b : length (arrived moment (batch_rows n spans)) ≡ length (batch_rows n spans) = length-map (batch_rows n spans) (λ (row : Row). record { row = row; moment = moment }) in
     let c = length_rows_at n 0 spans in omega (arith, a, b, c)
 
-taken : (f g : ℕ) (m m' : Machine) (spans : List Span) (moment : ℕ) (r : reply) → early m (Push spans moment) ≡ None → (Rose f g → ⊥)
+pub taken : (f g : ℕ) (m m' : Machine) (spans : List Span) (moment : ℕ) (r : reply) → early m (Push spans moment) ≡ None → (Rose f g → ⊥)
     → Step f g m (Push spans moment) r m' → Taken spans moment m r m'
 taken f g m m' spans moment r early well (Sure told same) = let bad : ⊥ = cc in absurd bad
 taken f g m m' spans moment r early well (Succeeds none done) =
@@ -129,10 +129,10 @@ taken f g m m' spans moment r early well (Halts none reclaims writes told rose e
 
 -- ---- an item that has room
 
-abbrev IsPlain : Reply → Type 0
+abbrev pub IsPlain : Reply → Type 0
 IsPlain r = is_refusal r ≡ false
 
-count_plain : (reading : Reading) (answer : Result ℕ PushError) (n : ℕ) → push_reply answer ≡ Count n → IsPlain (pushed_reply reading answer)
+pub count_plain : (reading : Reading) (answer : Result ℕ PushError) (n : ℕ) → push_reply answer ≡ Count n → IsPlain (pushed_reply reading answer)
 count_plain reading (Ok number) n e = refl
 count_plain reading (Err why) n e = let bad : ⊥ = cc in absurd bad
 
@@ -146,7 +146,7 @@ memory_plain reading (push.ReadOnly faults) e = let bad : ⊥ = cc in absurd bad
 memory_plain reading push.Fault e = let bad : ⊥ = cc in absurd bad
 memory_plain reading push.Memory e = refl
 
-starved_plain : (reading : Reading) (answer : Result ℕ PushError) → push_reply answer ≡ Refused cause.Memory → IsPlain (pushed_reply reading answer)
+pub starved_plain : (reading : Reading) (answer : Result ℕ PushError) → push_reply answer ≡ Refused cause.Memory → IsPlain (pushed_reply reading answer)
 starved_plain reading (Ok number) e = let bad : ⊥ = cc in absurd bad
 starved_plain reading (Err why) e = memory_plain reading why (same_cause (push_refusal why) cause.Memory e)
 
@@ -181,11 +181,11 @@ push_goes_on reading moment items m m' answer room (kept told history writes row
 push_goes_on reading moment items m m' answer room (starved told same) =
     (starved_plain reading answer told, same_room (Ok (request.Push reading moment)) items m m' same room)
 
-cut_plain : (tells : ℕ → Reply) (answer : Result ℕ Memory) → ((moved : ℕ) → IsPlain (tells moved)) → IsPlain (cut_reply tells answer)
+pub cut_plain : (tells : ℕ → Reply) (answer : Result ℕ Memory) → ((moved : ℕ) → IsPlain (tells moved)) → IsPlain (cut_reply tells answer)
 cut_plain tells (Ok moved) plain = plain moved
 cut_plain tells (Err e) plain = refl
 
-round_plain : (did : ℕ → ℕ → Reply) (nothing : Reply) (round : Round) → ((blocks rows : ℕ) → IsPlain (did blocks rows)) → IsPlain nothing → IsDoneOrStarved round
+pub round_plain : (did : ℕ → ℕ → Reply) (nothing : Reply) (round : Round) → ((blocks rows : ℕ) → IsPlain (did blocks rows)) → IsPlain nothing → IsDoneOrStarved round
     → IsPlain (round_reply did nothing round)
 round_plain did nothing (Did blocks rows) plain idle done = plain blocks rows
 round_plain did nothing Nothing plain idle done = idle
@@ -213,12 +213,12 @@ reclaim_memory (reclaim.ReadOnly faults) e = let bad : ⊥ = cc in absurd bad
 reclaim_memory reclaim.Fault e = let bad : ⊥ = cc in absurd bad
 reclaim_memory reclaim.Memory e = refl
 
-reclaim_plain : (answer : Result ℕ ReclaimError) → ((n : ℕ) × (reclaim_reply answer ≡ Count n)) ⊎ (reclaim_reply answer ≡ Refused cause.Memory) → IsPlain (reclaimed_reply answer)
+pub reclaim_plain : (answer : Result ℕ ReclaimError) → ((n : ℕ) × (reclaim_reply answer ≡ Count n)) ⊎ (reclaim_reply answer ≡ Refused cause.Memory) → IsPlain (reclaimed_reply answer)
 reclaim_plain (Ok files) so = refl
 reclaim_plain (Err why) (inl (n, e)) = let bad : ⊥ = cc in absurd bad
 reclaim_plain (Err why) (inr e) = reclaim_memory why (same_cause (reclaim_refusal why) cause.Memory e)
 
-query_plain : (why : Refusal) (before after : At) → HasQueryCause true why before after → (Rose before.faults after.faults → ⊥) → is_for_other why ≡ false
+pub query_plain : (why : Refusal) (before after : At) → HasQueryCause true why before after → (Rose before.faults after.faults → ⊥) → is_for_other why ≡ false
 query_plain refusal.Memory before after cause well = refl
 query_plain refusal.DiskFault before after cause well = absurd (well cause)
 query_plain (refusal.TooLong n) before after cause well = absurd cause
@@ -240,6 +240,7 @@ query_plain (refusal.Round (round_refusal.Busy job)) before after cause well = a
 query_plain (refusal.Round (round_refusal.FilesSpent next)) before after cause well = absurd cause
 query_plain (refusal.Round round_refusal.Fault) before after cause well = absurd cause
 query_plain (refusal.Round round_refusal.Memory) before after cause well = absurd cause
+query_plain refusal.Closed before after cause well = absurd cause
 query_plain (refusal.NotStore file at) before after cause well = absurd cause
 
 item_goes_on : (item : Item) (items : List Item) (before after : At) (r : Reply) → IsAnsweredOrRefused true item before r after

@@ -11,30 +11,31 @@ use Rattle.store_state.specs.Meaning.{Meaning}
 use Rattle.client_run.specs.Answers.{HasReplied}
 use Rattle.store_state.specs.Made.{Call}
 use Rattle.client_run.proofs.CallLemmas.{made-append}
+use Rattle.session_meaning.specs.Act.{Act}
 use Rattle.session_meaning.specs.Answering.{AreItemsAnswered}
-use Rattle.session_meaning.specs.Asked.{AreAsked, AsksNext, after_lines, after_moment}
+use Rattle.session_meaning.specs.Asked.{AreAsked, ComesToNext, after_lines, after_moment}
 use Rattle.session_meaning.specs.Progress.{AreAnsweredOver, HasAnsweredOne, HasAnsweredOver, Progress}
 use Rattle.session_meaning.specs.Session.{reply_texts}
 
 -- ---- what is asked
 
--- A line without bytes asks nothing.
-pub AreAsked-empty : (lines : List (List ℕ)) (told : Option (List ℕ)) (items : List Item) (refused : List (List ℕ)) → AreAsked lines told items refused
-    → AreAsked (lines ++ [] ∷ []) told items refused
-AreAsked-empty [] told items refused h = h
-AreAsked-empty ([] ∷ lines) told items refused h = AreAsked-empty lines told items refused h
+-- A line without bytes is passed over.
+pub AreAsked-empty : (lines : List (List ℕ)) (told : Option (List ℕ)) (acts : List Act) (refused : List (List ℕ)) → AreAsked lines told acts refused
+    → AreAsked (lines ++ [] ∷ []) told acts refused
+AreAsked-empty [] told acts refused h = h
+AreAsked-empty ([] ∷ lines) told acts refused h = AreAsked-empty lines told acts refused h
 AreAsked-empty ((b ∷ bs) ∷ lines) told [] refused h = h
-AreAsked-empty ((b ∷ bs) ∷ lines) told (item ∷ items) refused h = (h.0, h.1, h.2, h.3, AreAsked-empty lines (after_moment told) items h.1 h.4)
+AreAsked-empty ((b ∷ bs) ∷ lines) told (act ∷ acts) refused h = (h.0, h.1, h.2, h.3, AreAsked-empty lines (after_moment told) acts h.1 h.4)
 
--- Any other line asks something more.
-pub AreAsked-line : (lines : List (List ℕ)) (told : Option (List ℕ)) (items : List Item) (refused : List (List ℕ)) (b : ℕ) (bs : List ℕ) (item : Item) (more : List (List ℕ))
-    → AreAsked lines told items refused → AsksNext (after_lines lines told) (b ∷ bs) more item
-    → AreAsked (lines ++ (b ∷ bs) ∷ []) told (items ++ item ∷ []) (refused ++ more)
-AreAsked-line [] told items refused b bs item more h a = rw (h.0, h.1) (more, [], sym (append-nil more), a, (refl, refl))
-AreAsked-line ([] ∷ lines) told items refused b bs item more h a = AreAsked-line lines told items refused b bs item more h a
-AreAsked-line ((c ∷ cs) ∷ lines) told [] refused b bs item more h a = absurd h
-AreAsked-line ((c ∷ cs) ∷ lines) told (i ∷ is) refused b bs item more h a =
-    (h.0, h.1 ++ more, ap (λ (ts : List (List ℕ)). ts ++ more) h.2 ∙ append_assoc h.0 h.1 more, h.3, AreAsked-line lines (after_moment told) is h.1 b bs item more h.4 a)
+-- Any other line comes to something more.
+pub AreAsked-line : (lines : List (List ℕ)) (told : Option (List ℕ)) (acts : List Act) (refused : List (List ℕ)) (b : ℕ) (bs : List ℕ) (act : Act) (more : List (List ℕ))
+    → AreAsked lines told acts refused → ComesToNext (after_lines lines told) (b ∷ bs) more act
+    → AreAsked (lines ++ (b ∷ bs) ∷ []) told (acts ++ act ∷ []) (refused ++ more)
+AreAsked-line [] told acts refused b bs act more h a = rw (h.0, h.1) (more, [], sym (append-nil more), a, (refl, refl))
+AreAsked-line ([] ∷ lines) told acts refused b bs act more h a = AreAsked-line lines told acts refused b bs act more h a
+AreAsked-line ((c ∷ cs) ∷ lines) told [] refused b bs act more h a = absurd h
+AreAsked-line ((c ∷ cs) ∷ lines) told (i ∷ is) refused b bs act more h a =
+    (h.0, h.1 ++ more, ap (λ (ts : List (List ℕ)). ts ++ more) h.2 ∙ append_assoc h.0 h.1 more, h.3, AreAsked-line lines (after_moment told) is h.1 b bs act more h.4 a)
 
 after_empty : (lines : List (List ℕ)) (told : Option (List ℕ)) → after_lines (lines ++ [] ∷ []) told ≡ after_lines lines told
 after_empty [] told = refl
@@ -56,26 +57,26 @@ one_more text answered rest later line split next = split ∙ ap (λ ls. answere
 further : (text front rest past later : List ℕ) → text ≡ front ++ rest → rest ≡ past ++ later → text ≡ (front ++ past) ++ later
 further text front rest past later is parts = is ∙ ap (λ xs. front ++ xs) parts ∙ sym (append_assoc front past later)
 
-pub progress_empty : (told : Option (List ℕ)) (text rest past later : List ℕ) (refused : List (List ℕ)) (items : List Item) (to_tell : Option (List ℕ))
-    → Progress told text rest refused items to_tell → rest ≡ past ++ later → lines rest ≡ [] ∷ lines later → Progress told text later refused items to_tell
-progress_empty told text rest past later refused items to_tell p parts next = record {
+pub progress_empty : (told : Option (List ℕ)) (text rest past later : List ℕ) (refused : List (List ℕ)) (acts : List Act) (to_tell : Option (List ℕ))
+    → Progress told text rest refused acts to_tell → rest ≡ past ++ later → lines rest ≡ [] ∷ lines later → Progress told text later refused acts to_tell
+progress_empty told text rest past later refused acts to_tell p parts next = record {
   front = p.front ++ past;
   text_is = further text p.front rest past later p.text_is parts;
   answered = p.answered ++ [] ∷ [];
   lines_are = one_more (lines text) p.answered (lines rest) (lines later) [] p.lines_are next;
-  asked = AreAsked-empty p.answered told items refused p.asked;
+  asked = AreAsked-empty p.answered told acts refused p.asked;
   clock = p.clock ∙ sym (after_empty p.answered told);
 }
 
-pub progress_line : (told : Option (List ℕ)) (text rest past later : List ℕ) (refused more : List (List ℕ)) (items : List Item) (to_tell : Option (List ℕ)) (b : ℕ) (bs : List ℕ) (item : Item)
-    → Progress told text rest refused items to_tell → rest ≡ past ++ later → lines rest ≡ (b ∷ bs) ∷ lines later → AsksNext to_tell (b ∷ bs) more item
-    → Progress told text later (refused ++ more) (items ++ item ∷ []) (after_moment to_tell)
-progress_line told text rest past later refused more items to_tell b bs item p parts next a = record {
+pub progress_line : (told : Option (List ℕ)) (text rest past later : List ℕ) (refused more : List (List ℕ)) (acts : List Act) (to_tell : Option (List ℕ)) (b : ℕ) (bs : List ℕ) (act : Act)
+    → Progress told text rest refused acts to_tell → rest ≡ past ++ later → lines rest ≡ (b ∷ bs) ∷ lines later → ComesToNext to_tell (b ∷ bs) more act
+    → Progress told text later (refused ++ more) (acts ++ act ∷ []) (after_moment to_tell)
+progress_line told text rest past later refused more acts to_tell b bs act p parts next a = record {
   front = p.front ++ past;
   text_is = further text p.front rest past later p.text_is parts;
   answered = p.answered ++ (b ∷ bs) ∷ [];
   lines_are = one_more (lines text) p.answered (lines rest) (lines later) (b ∷ bs) p.lines_are next;
-  asked = AreAsked-line p.answered told items refused b bs item more p.asked (subst (λ (o : Option (List ℕ)). AsksNext o (b ∷ bs) more item) p.clock a);
+  asked = AreAsked-line p.answered told acts refused b bs act more p.asked (subst (λ (o : Option (List ℕ)). ComesToNext o (b ∷ bs) more act) p.clock a);
   clock = ap after_moment p.clock ∙ sym (after_line p.answered told b bs);
 }
 

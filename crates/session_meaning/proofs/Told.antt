@@ -54,7 +54,7 @@ called_grown before after e r more none pushes step =
     history_grown before after more none
     ((step_tells before.faults after.faults before.machine after.machine e r step.1).0 ∙ no_push e r (history_of before) pushes)
 
-item_grows : (told : Bool) (item : Item) (before after : At) (r : Reply) → IsAnsweredOrRefused told item before r after
+pub item_grows : (told : Bool) (item : Item) (before after : At) (r : Reply) → IsAnsweredOrRefused told item before r after
     → history_of after ≡ grown (history_of before) (accepted_entry item r)
 item_grows told (Ok (request.Push reading moment)) before after r (inl (answer, is, step)) =
     (step_tells before.faults after.faults before.machine after.machine (event.Push reading.batch.spans moment) (push_reply answer) step.1).0

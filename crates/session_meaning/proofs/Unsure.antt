@@ -20,7 +20,7 @@ use Rattle.query_fanout.specs.TraceAnswers.{IsTraceAnswer}
 use Rattle.client_run.specs.Answers.{asked_of, counted_of, pushed_reply}
 use Rattle.store_state.specs.Made.{Call, call}
 use Rattle.session_meaning.specs.Answering.{AreItemsAnswered, IsItemAnswered}
-use Rattle.session_meaning.specs.Pushes.{unsure_entry, unsure_or}
+use Rattle.session_meaning.specs.Pushes.{unsure_after_line, unsure_entry, unsure_or}
 use Rattle.session_meaning.proofs.RoundLaws.{PushesNothing, asks_none}
 use Rattle.session_meaning.proofs.Pushless.{AllPushNothing, compaction_pushes_nothing, flush_pushes_nothing, query_pushes_nothing}
 
@@ -50,7 +50,7 @@ push_unsure : (reading : Reading) (moment : ℕ) (answer : Result ℕ PushError)
 push_unsure reading moment answer None = push_none reading moment answer
 push_unsure reading moment answer (Some entry) = stays_some (Push reading.batch.spans moment) (push_reply answer) entry
 
-first_none : (u : Unsure) → u ≡ first_unsure u None
+pub first_none : (u : Unsure) → u ≡ first_unsure u None
 first_none None = refl
 first_none (Some entry) = refl
 
@@ -58,9 +58,13 @@ or_first : (item : Item) (r : Reply) (later : Unsure) → first_unsure (unsure_o
 or_first (Ok (request.Push reading moment)) (told.Refused DiskFault) later = refl
 or_first _ _ later = refl
 
-first_assoc : (u : Unsure) (item : Item) (r : Reply) (later : Unsure) → first_unsure (first_unsure u (unsure_or item r None)) later ≡ first_unsure u (unsure_or item r later)
+pub first_assoc : (u : Unsure) (item : Item) (r : Reply) (later : Unsure) → first_unsure (first_unsure u (unsure_or item r None)) later ≡ first_unsure u (unsure_or item r later)
 first_assoc (Some entry) item r later = refl
 first_assoc None item r later = or_first item r later
+
+pub after_line : (u : Unsure) (item : Item) (r : Reply) → first_unsure u (unsure_or item r None) ≡ unsure_after_line u item r
+after_line None item r = refl
+after_line (Some entry) item r = refl
 
 -- an event that pushes nothing leaves the entry as it was
 no_push_sure : (e : Event) (r : reply) (u : Unsure) → PushesNothing e → unsure_after e r u ≡ u
@@ -78,7 +82,7 @@ module _ (after : List Call → Unsure → Unsure) (none : (u : Unsure) → afte
   upkeep_unsure [] u all = none u
   upkeep_unsure (c ∷ calls) u all = one c calls u ∙ ap (after calls) (no_push_sure c.event c.reply u all.0) ∙ upkeep_unsure calls u all.1
 
-  item_unsure : (item : Item) (r : Reply) (calls : List Call) (u : Unsure) → IsItemAnswered item r calls → after calls u ≡ first_unsure u (unsure_or item r None)
+  pub item_unsure : (item : Item) (r : Reply) (calls : List Call) (u : Unsure) → IsItemAnswered item r calls → after calls u ≡ first_unsure u (unsure_or item r None)
   item_unsure (Ok (request.Push reading moment)) r calls u (answer, told, are) =
       let pushed = call (Push reading.batch.spans moment) (push_reply answer) in
       ap (λ (cs : List Call). after cs u) are ∙ one pushed [] u ∙ none (unsure_after pushed.event pushed.reply u) ∙ push_unsure reading moment answer u

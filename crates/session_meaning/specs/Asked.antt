@@ -4,6 +4,7 @@ use Rattle.std.specs.Option.{ForSome, option_map}
 use Rattle.io_edges.specs.Devices.{first_moment, later_moments}
 use Rattle.session_text.specs.Items.{Item}
 use Rattle.session_text.specs.Requests.{AsksAt}
+use Rattle.session_meaning.specs.Act.{Act, ComesTo}
 
 -- A clock that has these moments to give gives this one next. One that doesn't tell its moments may give any.
 abbrev pub IsNextMoment : Option (List ℕ) → ℕ → Type 0
@@ -24,12 +25,16 @@ after_lines ((b ∷ bs) ∷ lines) told = after_lines lines (after_moment told)
 abbrev pub AsksNext : Option (List ℕ) → List ℕ → List (List ℕ) → Item → Type 0
 AsksNext told line refused item = (moment : ℕ) × IsNextMoment told moment × AsksAt moment line refused item
 
--- The lines ask this in order, each read at the clock's next moment, where the maker of patterns refused these texts, in
--- order: those that the lines blame. A line without bytes asks nothing.
-abbrev pub AreAsked : List (List ℕ) → Option (List ℕ) → List Item → List (List ℕ) → Type 0
-AreAsked [] told items refused = (items ≡ []) × (refused ≡ [])
-AreAsked ([] ∷ lines) told items refused = AreAsked lines told items refused
+-- A line that is read at the clock's next moment comes to this.
+abbrev pub ComesToNext : Option (List ℕ) → List ℕ → List (List ℕ) → Act → Type 0
+ComesToNext told line refused act = (moment : ℕ) × IsNextMoment told moment × ComesTo moment line refused act
+
+-- The lines come to this in order, each read at the clock's next moment, where the maker of patterns refused these texts, in
+-- order: those that the lines blame. A line without bytes is passed over.
+abbrev pub AreAsked : List (List ℕ) → Option (List ℕ) → List Act → List (List ℕ) → Type 0
+AreAsked [] told acts refused = (acts ≡ []) × (refused ≡ [])
+AreAsked ([] ∷ lines) told acts refused = AreAsked lines told acts refused
 AreAsked ((b ∷ bs) ∷ lines) told [] refused = ⊥
-AreAsked ((b ∷ bs) ∷ lines) told (item ∷ items) refused =
-    (now later : List (List ℕ)) × (refused ≡ now ++ later) × AsksNext told (b ∷ bs) now item
-    × AreAsked lines (after_moment told) items later
+AreAsked ((b ∷ bs) ∷ lines) told (act ∷ acts) refused =
+    (now later : List (List ℕ)) × (refused ≡ now ++ later) × ComesToNext told (b ∷ bs) now act
+    × AreAsked lines (after_moment told) acts later

@@ -11,6 +11,8 @@ use Rattle.store_model.specs.History.{count_of}
 use Rattle.store_model.specs.State.{block_files, held_of, is_among}
 use Rattle.store_state.specs.declared.rounds.Refusal.{Refusal as Cause}
 use Rattle.store_state.specs.declared.rounds.Refusal.TheVariants as cause
+use Rattle.session_meaning.specs.Act.{Act}
+use Rattle.session_meaning.specs.Act.Act.{Ask}
 use Rattle.session_meaning.specs.At.{At, history_of}
 
 -- The refusal is the text `disk-fault`: a call of the disk failed.
@@ -33,6 +35,10 @@ disk_faults (reply ∷ replies) = faults_in reply + disk_faults replies
 abbrev pub blames_disk : Item → Bool
 blames_disk (Ok request) = false
 blames_disk (Err why) = is_disk_fault why
+
+abbrev pub act_blames_disk : Act → Bool
+act_blames_disk (Ask item) = blames_disk item
+act_blames_disk _ = false
 
 -- A call that writes is refused for this only where that holds: a write failed before, and the disk's count of faults after it is
 -- told; a call of the disk failed now, so that the store writes no more; or, for memory, at any time. So is the emptying of loose

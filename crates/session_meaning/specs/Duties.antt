@@ -1,5 +1,5 @@
--- Private mechanism of an ingest: its duties, and what is due of them. What an ingest asks stands in `Ingest.antt`, and a law says that
--- whoever follows these duties asks that. No clause on a run cites this file.
+-- Mechanism of an ingest: its duties, and what is due of them. What an ingest asks stands in `Ingest.antt`, and a law says that whoever
+-- follows these duties asks that. Laws on ingests and the functions that ingest cite this file; what a run does (`Runs.antt`) doesn't.
 use Rattle.std.specs.Prelude.{◌≡◌, ◌⊎◌, ⊤, ℕ, ◌-◌, ◌==◌, Bool, nat_le, if◌then◌else◌, List, [], ◌∷◌, Option, Ok}
 use Rattle.session_text.specs.declared.reply.Reply.{Reply}
 use Rattle.session_text.specs.declared.request.Request.{Request}
@@ -60,27 +60,27 @@ due_at at todo = due (held_of at.machine.state) todo
 -- By what is due this is asked next; after this reply the rest is to do, and the clock has the rest of its moments to
 -- tell. A line is read at the clock's next moment.
 abbrev pub IsDue : List Duty → Option (List ℕ) → Item → Reply → List Duty → Option (List ℕ) → Type 0
-IsDue (push line ∷ later) told item reply todo to_tell =
-    ((moment : ℕ) × IsNextMoment told moment × AsksPush moment line item)
-    × (todo ≡ later) × (to_tell ≡ after_moment told)
-IsDue (ask request ∷ later) told item reply todo to_tell = (item ≡ Ok request) × (todo ≡ later) × (to_tell ≡ told)
-IsDue (compact_all times ∷ later) told item reply todo to_tell =
-    (item ≡ Ok Compact) × (to_tell ≡ told)
+IsDue (push line ∷ later) moments item reply todo moments_left =
+    ((moment : ℕ) × IsNextMoment moments moment × AsksPush moment line item)
+    × (todo ≡ later) × (moments_left ≡ after_moment moments)
+IsDue (ask request ∷ later) moments item reply todo moments_left = (item ≡ Ok request) × (todo ≡ later) × (moments_left ≡ moments)
+IsDue (compact_all times ∷ later) moments item reply todo moments_left =
+    (item ≡ Ok Compact) × (moments_left ≡ moments)
     × (todo ≡ (if is_joined reply then compact_all (times - 1) ∷ later else later))
-IsDue _ told item reply todo to_tell = ⊥
+IsDue _ moments item reply todo moments_left = ⊥
 
 -- What is due is asked, and answered in order, from a store to a store; and that is left to do then, with or without a
--- look at what is due of it. `sure` says that what the blocks hold is told, and `told` and `to_tell` are what the clock
--- has to tell before and after.
+-- look at what is due of it. `told` says that what the blocks hold is told, and `moments` and `moments_left` are what the
+-- clock has to tell before and after.
 abbrev pub Follows : Bool → List Duty → Option (List ℕ) → At → List Item → List Reply → At → List Duty
     → Option (List ℕ) → Type 0
-Follows sure todo told before [] replies after left to_tell =
-    (replies ≡ []) × (after ≡ before) × ((left ≡ todo) ⊎ (left ≡ due_at before todo)) × (to_tell ≡ told)
-Follows sure todo told before (item ∷ items) [] after left to_tell = ⊥
-Follows sure todo told before (item ∷ items) (reply ∷ replies) after left to_tell =
-    (between : At) × (later : List Duty) × (told_later : Option (List ℕ))
-    × IsDue (due_at before todo) told item reply later told_later × IsAnsweredOrRefused sure item before reply between
-    × Follows sure later told_later between items replies after left to_tell
+Follows told todo moments before [] replies after left moments_left =
+    (replies ≡ []) × (after ≡ before) × ((left ≡ todo) ⊎ (left ≡ due_at before todo)) × (moments_left ≡ moments)
+Follows told todo moments before (item ∷ items) [] after left moments_left = ⊥
+Follows told todo moments before (item ∷ items) (reply ∷ replies) after left moments_left =
+    (between : At) × (later : List Duty) × (moments_later : Option (List ℕ))
+    × IsDue (due_at before todo) moments item reply later moments_later × IsAnsweredOrRefused told item before reply between
+    × Follows told later moments_later between items replies after left moments_left
 
 -- How much of its duties an ingest left: none, where the input was read to its end and all replies were written; where the
 -- source failed, or a run takes no more bytes, those from the first line on that wasn't pushed: nothing is done for the end

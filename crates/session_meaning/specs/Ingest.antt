@@ -27,10 +27,10 @@ pub record Stand : Type 0 where
   pub store : At
   pub moments : Option (List ℕ)
 
--- A part of an ingest came to its end, or the run stopped in it.
+-- A part of an ingest is told to its end, or as far as the run came in it: which may be its end too.
 pub data Far : Type 0 where
   whole : Far
-  stopped : Far
+  so_far : Far
 
 -- A part: what it asks and is answered, from where it begins to where it comes, and how far that is.
 abbrev pub Part : Type 1
@@ -43,65 +43,65 @@ AsksNothing before items replies after = (items ≡ []) × (replies ≡ []) × (
 -- One part after the other; or the run stopped in the first.
 abbrev pub Then : Part → Part → Stand → List Item → List Reply → Stand → Far → Type 0
 Then first next before items replies after far =
-    (first before items replies after stopped × (far ≡ stopped))
+    (first before items replies after so_far × (far ≡ so_far))
     ⊎ ((between : Stand) × (xs ys : List Item) × (rs ss : List Reply) × (items ≡ xs ++ ys) × (replies ≡ rs ++ ss)
     × first before xs rs between whole × next between ys ss after far)
 
 -- This is asked, and answered; or the run stopped before it.
 abbrev pub Asks : Bool → Request → Stand → List Item → List Reply → Stand → Far → Type 0
-Asks sure request before items replies after far =
-    (AsksNothing before items replies after × (far ≡ stopped))
+Asks told request before items replies after far =
+    (AsksNothing before items replies after × (far ≡ so_far))
     ⊎ ((reply : Reply) × (items ≡ Ok request ∷ []) × (replies ≡ reply ∷ [])
-    × IsAnsweredOrRefused sure (Ok request) before.store reply after.store × (after.moments ≡ before.moments))
+    × IsAnsweredOrRefused told (Ok request) before.store reply after.store × (after.moments ≡ before.moments))
 
 -- ---- the lines
 
 -- The push of a line is asked, read at the clock's next moment, and answered; or the run stopped before it.
 abbrev pub AsksLine : Bool → List ℕ → Stand → List Item → List Reply → Stand → Far → Type 0
-AsksLine sure line before items replies after far =
-    (AsksNothing before items replies after × (far ≡ stopped))
+AsksLine told line before items replies after far =
+    (AsksNothing before items replies after × (far ≡ so_far))
     ⊎ ((moment : ℕ) × (item : Item) × (reply : Reply) × IsNextMoment before.moments moment × AsksPush moment line item
     × (items ≡ item ∷ []) × (replies ≡ reply ∷ [])
-    × IsAnsweredOrRefused sure item before.store reply after.store × (after.moments ≡ after_moment before.moments))
+    × IsAnsweredOrRefused told item before.store reply after.store × (after.moments ≡ after_moment before.moments))
 
 -- The store is kept small: where it holds many rows they are cut and flushed.
 abbrev pub KeptSmall : Bool → Stand → List Item → List Reply → Stand → Far → Type 0
-KeptSmall sure before items replies after far =
+KeptSmall told before items replies after far =
     ((held_of before.store.machine.state < many_rows) × AsksNothing before items replies after)
-    ⊎ ((many_rows ≤ held_of before.store.machine.state) × Then (Asks sure CutAll) (Asks sure Flush) before items replies after far)
+    ⊎ ((many_rows ≤ held_of before.store.machine.state) × Then (Asks told CutAll) (Asks told Flush) before items replies after far)
 
 -- Each line is pushed, but for those without bytes, and the store is kept small after it, also where the push was refused.
 abbrev pub LinesPushed : Bool → List (List ℕ) → Stand → List Item → List Reply → Stand → Far → Type 0
-LinesPushed sure [] before items replies after far = AsksNothing before items replies after
-LinesPushed sure ([] ∷ lines) before items replies after far = LinesPushed sure lines before items replies after far
-LinesPushed sure ((b ∷ bs) ∷ lines) before items replies after far =
-    Then (Then (AsksLine sure (b ∷ bs)) (KeptSmall sure)) (LinesPushed sure lines) before items replies after far
+LinesPushed told [] before items replies after far = AsksNothing before items replies after
+LinesPushed told ([] ∷ lines) before items replies after far = LinesPushed told lines before items replies after far
+LinesPushed told ((b ∷ bs) ∷ lines) before items replies after far =
+    Then (Then (AsksLine told (b ∷ bs)) (KeptSmall told)) (LinesPushed told lines) before items replies after far
 
 -- ---- the end
 
 -- Compactions, until one joins no blocks; or the run stopped before that.
 abbrev pub Compacts : Bool → Stand → List Item → List Reply → Stand → Far → Type 0
-Compacts sure before [] replies after far = (replies ≡ []) × (after ≡ before) × (far ≡ stopped)
-Compacts sure before (item ∷ items) [] after far = ⊥
-Compacts sure before (item ∷ items) (reply ∷ replies) after far =
-    (item ≡ Ok Compact) × (between : Stand) × IsAnsweredOrRefused sure item before.store reply between.store
+Compacts told before [] replies after far = (replies ≡ []) × (after ≡ before) × (far ≡ so_far)
+Compacts told before (item ∷ items) [] after far = ⊥
+Compacts told before (item ∷ items) (reply ∷ replies) after far =
+    (item ≡ Ok Compact) × (between : Stand) × IsAnsweredOrRefused told item before.store reply between.store
     × (between.moments ≡ before.moments)
-    × (((is_joined reply ≡ true) × Compacts sure between items replies after far)
+    × (((is_joined reply ≡ true) × Compacts told between items replies after far)
     ⊎ ((is_joined reply ≡ false) × AsksNothing between items replies after))
 
 -- All rows are cut and flushed, blocks are joined as long as some are, and loose files are emptied.
 abbrev pub AtTheEnd : Bool → Stand → List Item → List Reply → Stand → Far → Type 0
-AtTheEnd sure = Then (Asks sure CutAll) (Then (Asks sure Flush) (Then (Compacts sure) (Asks sure Reclaim)))
+AtTheEnd told = Then (Asks told CutAll) (Then (Asks told Flush) (Then (Compacts told) (Asks told Reclaim)))
 
 -- ---- an ingest
 
 -- The store is kept small and the lines are pushed, and nothing is done for the end.
 abbrev pub Pushes : Bool → List (List ℕ) → Stand → List Item → List Reply → Stand → Type 0
-Pushes sure lines before items replies after = Then (KeptSmall sure) (LinesPushed sure lines) before items replies after whole
+Pushes told lines before items replies after = Then (KeptSmall told) (LinesPushed told lines) before items replies after whole
 
 -- An ingest of these lines, to its end or as far as it came.
 abbrev pub Ingests : Bool → List (List ℕ) → Stand → List Item → List Reply → Stand → Far → Type 0
-Ingests sure lines = Then (KeptSmall sure) (Then (LinesPushed sure lines) (AtTheEnd sure))
+Ingests told lines = Then (KeptSmall told) (Then (LinesPushed told lines) (AtTheEnd told))
 
 -- ---- what it asked last
 

@@ -1,4 +1,10 @@
 pub mod At
+pub mod Act
+pub mod Place
+pub mod Kept
+pub mod Listed
+pub mod Done
+pub mod Over
 pub mod Asked
 pub mod Statuses
 pub mod Rounds

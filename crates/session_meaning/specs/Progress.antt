@@ -12,19 +12,20 @@ use Rattle.store_core.specs.declared.store.Core.{Core}
 use Rattle.store_state.specs.Meaning.{Meaning}
 use Rattle.store_state.specs.Made.{AreMade, Call}
 use Rattle.client_run.specs.Answers.{HasReplied}
+use Rattle.session_meaning.specs.Act.{Act}
 use Rattle.session_meaning.specs.Asked.{AreAsked, after_lines}
 use Rattle.session_meaning.specs.Answering.{AreItemsAnswered, IsItemAnswered}
 use Rattle.session_meaning.specs.Duties.{Duty, IsDue, due}
 use Rattle.session_meaning.specs.InOrder.{InOrder}
 
--- The lines of `text` before `rest` asked this, where these texts were refused. `told` is what the clock had to give at first,
+-- The lines of `text` before `rest` came to this, where these texts were refused. `told` is what the clock had to give at first,
 -- and `to_tell` what it has to give now.
-pub record Progress (told : Option (List ℕ)) (text rest : List ℕ) (refused : List (List ℕ)) (items : List Item) (to_tell : Option (List ℕ)) : Type 0 where
+pub record Progress (told : Option (List ℕ)) (text rest : List ℕ) (refused : List (List ℕ)) (acts : List Act) (to_tell : Option (List ℕ)) : Type 0 where
   pub front : List ℕ
   pub answered : List (List ℕ)
   pub text_is : text ≡ front ++ rest
   pub lines_are : lines text ≡ answered ++ lines rest
-  pub asked : AreAsked answered told items refused
+  pub asked : AreAsked answered told acts refused
   pub clock : to_tell ≡ after_lines answered told
 
 -- What is asked was answered so over a port.

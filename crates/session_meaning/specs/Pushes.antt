@@ -1,5 +1,5 @@
 -- What the replies of a session tell of its pushes.
-use Rattle.std.specs.Prelude.{◌≡◌, ℕ, ◌+◌, ◌*◌, ◌<◌, ◌≤◌, List, [], ◌∷◌, ◌++◌, length, Option, Some, None, Ok}
+use Rattle.std.specs.Prelude.{◌≡◌, ℕ, ⊤, ◌+◌, ◌*◌, ◌<◌, ◌≤◌, List, [], ◌∷◌, ◌++◌, length, Option, Some, None, Ok}
 use Rattle.session_text.specs.declared.request.Request.TheVariants.{Compact, Flush, Push}
 use Rattle.session_text.specs.declared.refusal.Refusal.TheVariants.{DiskFault}
 use Rattle.session_text.specs.declared.reply.Reply.{Reply}
@@ -26,6 +26,11 @@ accepted_entries (item ∷ items) (reply ∷ replies) = accepted_entry item repl
 abbrev pub unsure_or : Item → Reply → Option Entry → Option Entry
 unsure_or (Ok (Push reading moment)) (Refused DiskFault) other = Some (push_of reading.batch.spans)
 unsure_or _ _ other = other
+
+-- The entry that isn't sure after a line: that of the first push that was refused since the disk failed.
+abbrev pub unsure_after_line : Option Entry → Item → Reply → Option Entry
+unsure_after_line None item reply = unsure_or item reply None
+unsure_after_line (Some entry) item reply = Some entry
 
 -- The entry of the push that was refused since the disk failed, if there was one: whether it is stored isn't sure. There is no
 -- second one, since from then on the store takes no push.
@@ -84,3 +89,12 @@ pub record HasRoomForPush (spans : ℕ) (m : Machine) : Type 0 where
   pub writes : m.read_only ≡ None
   pub pushes : count_of m.history < 4294967295
   pub rows : held_of m.state + spans ≤ 262144
+
+-- A store that writes, and in which no job is open, has room for what is asked now: for a push in the history and in memory, for a flush
+-- and for a compaction two file numbers. What else is asked needs none.
+abbrev pub HasRoomNow : Item → Machine → Type 0
+HasRoomNow (Ok (Push reading moment)) m =
+    (count_of m.history < 4294967295) × (held_of m.state + length reading.batch.spans ≤ 262144)
+HasRoomNow (Ok Flush) m = m.state.next_file < 4294967294
+HasRoomNow (Ok Compact) m = m.state.next_file < 4294967294
+HasRoomNow _ m = ⊤

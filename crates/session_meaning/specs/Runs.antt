@@ -1,5 +1,5 @@
 -- What a run of the program does.
-use Rattle.std.specs.Prelude.{◌≡◌, ◌≢◌, ◌⊎◌, ⊤, ℕ, ◌<◌, ◌≤◌, Bool, false, List, [], ◌∷◌, ◌++◌, Option, Some, None, IfSome, IsTrue, if◌then◌else◌, length}
+use Rattle.std.specs.Prelude.{◌≡◌, ◌≢◌, ◌⊎◌, ⊤, ℕ, ◌<◌, ◌≤◌, Bool, false, List, [], ◌∷◌, ◌++◌, Option, Some, None, IfSome, IsTrue, if◌then◌else◌, length, map}
 use Rattle.std.specs.Io.KnownBytes.{Appends}
 use Rattle.clap.specs.Words.{Kinds, fault_of}
 use Rattle.span_types.specs.Faults.{Rose}
@@ -20,11 +20,15 @@ use Rattle.store_images.specs.Stored.{IsSoundImage}
 use Rattle.store_core.specs.Opening.{BeginsEmpty, StoreBreaks}
 use Rattle.session_meaning.specs.declared.ending.Ending.{Ending}
 use Rattle.session_meaning.specs.declared.ending.Ending.TheVariants.{Answered, BadWords, NotOpened, NotStore, ReadFault, Refused, Spent, Starved, WriteFault}
+use Rattle.session_meaning.specs.Act.{Act}
+use Rattle.session_meaning.specs.Act.Act.{Ask}
 use Rattle.session_meaning.specs.Asked.{AreAsked, AsksNext, IsNextMoment, after_lines, after_moment}
 use Rattle.session_meaning.specs.At.{At, history_of}
+use Rattle.session_meaning.specs.Done.{AreDone}
 use Rattle.session_meaning.specs.Ingest.{Ingests, Pushes, Stand}
-use Rattle.session_meaning.specs.Ingest.Far.{stopped, whole}
-use Rattle.session_meaning.specs.Session.{Ends, EndsAlone, Session}
+use Rattle.session_meaning.specs.Ingest.Far.{so_far, whole}
+use Rattle.session_meaning.specs.Place.{Place, opened_at}
+use Rattle.session_meaning.specs.Session.{Ends, EndsAlone}
 
 -- What the outside tells at a moment: the bytes that the source has left and those that the sink has taken, the moments that
 -- the clock has to give, and the bytes that the disk holds, each where it tells them; the counts of faults; and how many writes
@@ -57,17 +61,17 @@ edges left source_faults taken sink_faults moments g source sink clock disk = re
   far_writes = g.far_writes disk;
 }
 
--- What happened in a run: how it ended, whether the store was opened and the moment of that, what was asked and answered from
--- which store to which, and which texts the maker of patterns refused, in order.
+-- What happened in a run: how it ended, whether the store was opened and the moment of that, what was done and answered from the
+-- store as it was opened to which place, and which texts the maker of patterns refused, in order.
 pub record Outcome : Type 0 where
   pub ending : Ending
   pub opened : Bool
   pub moment : ℕ
   pub first : At
-  pub items : List Item
+  pub acts : List Act
   pub refused : List (List ℕ)
   pub replies : List Reply
-  pub last : At
+  pub last : Place
 
 -- ---- the opening
 
@@ -81,7 +85,7 @@ pub record HasOpened (o : Outcome) (old new : Edges) : Type 0 where
   pub few : count_of (history_of o.first) ≤ 4294967295
   pub unbroken : IfSome old.held (λ image. (file at : ℕ) → StoreBreaks image file at → ⊥)
   pub first_faults : o.first.faults ≡ old.disk_faults
-  pub last_faults : o.last.faults ≡ new.disk_faults
+  pub last_faults : o.last.store.faults ≡ new.disk_faults
 
 -- The disk's bytes, where it tells them, break first at this place of this file, and so are no store's.
 abbrev pub IsNoStore : ℕ → ℕ → Option Image → Type 0
@@ -101,10 +105,10 @@ abbrev pub GaveOpening : Ending → Option (List ℕ) → Option (List ℕ) → 
 GaveOpening Starved old new = (new ≡ after_moment old) ⊎ (new ≡ old)
 GaveOpening _ old new = new ≡ after_moment old
 
--- The store wasn't opened: nothing was taken of the source, nothing was asked, and the clock gave no moment but the opening's. No
+-- The store wasn't opened: nothing was taken of the source, nothing was done, and the clock gave no moment but the opening's. No
 -- call of the disk failed, but where the run ends for that.
 pub record HasNotOpened (o : Outcome) (old new : Edges) : Type 0 where
-  pub no_items : o.items ≡ []
+  pub no_acts : o.acts ≡ []
   pub no_replies : o.replies ≡ []
   pub no_refused : o.refused ≡ []
   pub left : new.left ≡ old.left
@@ -114,14 +118,14 @@ pub record HasNotOpened (o : Outcome) (old new : Edges) : Type 0 where
 
 -- ---- what each command does
 
--- A session that read `text`: the lines of a prefix were asked in order, each read at the clock's next moment, and their
+-- A session that read `text`: the lines of a prefix were done in order, each read at the clock's next moment, and their
 -- replies, and nothing else, stand written as the ending says. What the maker refused is, in
 -- order, the text of the pattern that each line refused for a pattern's size is refused for, and no other.
 pub record HasRun (text before : List ℕ) (o : Outcome) (old new : Edges) : Type 0 where
   pub answered : List (List ℕ)
   pub later : List (List ℕ)
   pub lines_are : lines text ≡ answered ++ later
-  pub asked : AreAsked answered (after_moment old.moments) o.items o.refused
+  pub asked : AreAsked answered (after_moment old.moments) o.acts o.refused
   pub clock : new.moments ≡ after_lines answered (after_moment old.moments)
   pub ends : Ends o.ending text later new.left before o.replies new.taken
 
@@ -129,20 +133,22 @@ pub record HasRun (text before : List ℕ) (o : Outcome) (old new : Edges) : Typ
 -- its end and all replies were written; where the source failed, or a run takes no more bytes, so many lines were pushed and nothing was
 -- done for the end; and where the sink failed or memory ran out, it may have stopped anywhere.
 abbrev pub CameSoFar : Bool → Ending → List (List ℕ) → List (List ℕ) → Stand → List Item → List Reply → Stand → Type 0
-CameSoFar sure Answered all pushed before items replies after = Ingests sure all before items replies after whole
-CameSoFar sure Refused all pushed before items replies after = Ingests sure all before items replies after whole
-CameSoFar sure ReadFault all pushed before items replies after = Pushes sure pushed before items replies after
-CameSoFar sure Spent all pushed before items replies after = Pushes sure pushed before items replies after
-CameSoFar sure _ all pushed before items replies after = Ingests sure all before items replies after stopped
+CameSoFar told Answered all pushed before items replies after = Ingests told all before items replies after whole
+CameSoFar told Refused all pushed before items replies after = Ingests told all before items replies after whole
+CameSoFar told ReadFault all pushed before items replies after = Pushes told pushed before items replies after
+CameSoFar told Spent all pushed before items replies after = Pushes told pushed before items replies after
+CameSoFar told _ all pushed before items replies after = Ingests told all before items replies after so_far
 
 -- An ingest that read `text`: it was asked what an ingest asks, and the replies, and nothing else, stand written as the ending says.
 -- No pattern was made.
-pub record HasIngested (sure : Bool) (text before : List ℕ) (o : Outcome) (old new : Edges) : Type 0 where
+pub record HasIngested (told : Bool) (text before : List ℕ) (o : Outcome) (old new : Edges) : Type 0 where
+  pub items : List Item
+  pub acts_are : o.acts ≡ map Ask items
   pub pushed : List (List ℕ)
   pub later : List (List ℕ)
   pub lines_are : lines text ≡ pushed ++ later
-  pub asked : CameSoFar sure o.ending (lines text) pushed (record { store = o.first; moments = after_moment old.moments }) o.items o.replies
-      (record { store = o.last; moments = new.moments })
+  pub asked : CameSoFar told o.ending (lines text) pushed (record { store = o.first; moments = after_moment old.moments }) items o.replies
+      (record { store = o.last.store; moments = new.moments })
   pub no_refused : o.refused ≡ []
   pub ends : Ends o.ending text later new.left before o.replies new.taken
 
@@ -151,7 +157,7 @@ pub record HasIngested (sure : Bool) (text before : List ℕ) (o : Outcome) (old
 pub record HasAnswered (line before : List ℕ) (o : Outcome) (old new : Edges) : Type 0 where
   pub item : Item
   pub reply : Reply
-  pub items_are : o.items ≡ item ∷ []
+  pub acts_are : o.acts ≡ Ask item ∷ []
   pub replies_are : o.replies ≡ reply ∷ []
   pub asked : AsksNext (after_moment old.moments) line o.refused item
   pub clock : new.moments ≡ after_moment (after_moment old.moments)
@@ -170,18 +176,18 @@ NeedsNoSource ReadFault = ⊥
 NeedsNoSource Spent = ⊥
 NeedsNoSource _ = ⊤
 
--- In a store that was opened the command was done, as far as the source and the sink tell their bytes. `sure` says that what the
+-- In a store that was opened the command was done, as far as the source and the sink tell their bytes. `told` says that what the
 -- blocks of the store hold is told.
 abbrev pub DoesInStore : Bool → Command → Outcome → Edges → Edges → Type 0
-DoesInStore sure session o old new = IfSome old.left (λ text. IfSome old.taken (λ before. HasRun text before o old new))
-DoesInStore sure ingest o old new = IfSome old.left (λ text. IfSome old.taken (λ before. HasIngested sure text before o old new))
-DoesInStore sure (Alone line) o old new =
+DoesInStore told session o old new = IfSome old.left (λ text. IfSome old.taken (λ before. HasRun text before o old new))
+DoesInStore told ingest o old new = IfSome old.left (λ text. IfSome old.taken (λ before. HasIngested told text before o old new))
+DoesInStore told (Alone line) o old new =
     NeedsNoSource o.ending × IfSome old.taken (λ before. HasAnswered line before o old new)
 
 -- The store was opened and the command done; or it wasn't, and nothing was asked.
 abbrev pub Does : Bool → Command → Outcome → Edges → Edges → Type 0
-Does sure c o old new =
-    (IsTrue o.opened × HasOpened o old new × IsPastOpening o.ending × DoesInStore sure c o old new)
+Does told c o old new =
+    (IsTrue o.opened × HasOpened o old new × IsPastOpening o.ending × DoesInStore told c o old new)
     ⊎ ((o.opened ≡ false) × HasNotOpened o old new)
 
 -- ---- how a run may end
@@ -204,12 +210,12 @@ FitsWords (fault ∷ faults) ending = (ending ≡ BadWords) ⊎ (ending ≡ Star
 
 -- ---- a run
 
--- A run on these words between the edges as they were and as they are: what the words ask was done, what was asked was answered
--- in order from a store to a store, and the ending has its cause. `told` says that what the blocks of the store hold is told.
+-- A run on these words between the edges as they were and as they are: what the words ask was done and answered in order, from the
+-- store as it was opened on, and the ending has its cause. `told` says that what the blocks of the store hold is told.
 pub record IsRunOf (told : Bool) (words : List (List ℕ)) (o : Outcome) (old new : Edges) : Type 0 where
   pub words_fit : FitsWords (fault_of words_app words) o.ending
   pub does : (c : Command) → Spells words c → Does told c o old new
-  pub session : Session told o.first o.items o.replies o.last
+  pub session : AreDone told (opened_at o.first) o.acts o.replies o.last
   pub cause : HasCause o.ending old new
 
 -- ---- runs that come to their own end

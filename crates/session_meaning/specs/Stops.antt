@@ -1,28 +1,24 @@
 -- What is stored and what upkeep has left, after a run and whenever it is stopped.
-use Rattle.std.specs.Prelude.{◌≡◌, ◌⊎◌, ℕ, List, [], map, Option, None, Some, IsTrue}
+use Rattle.std.specs.Prelude.{◌≡◌, ◌≢◌, ◌⊎◌, ℕ, ◌≤◌, true, false, [], None, IsTrue}
+use Rattle.std.specs.List.{Contains}
 use Rattle.span_types.specs.First.{IsFirstOf}
-use Rattle.span_types.specs.declared.spans.Span.{Span}
+use Rattle.span_types.specs.declared.spans.Row.{Row}
 use Rattle.disk_model.specs.Images.{Image}
 use Rattle.disk_model.specs.Crash.{Reached}
 use Rattle.disk_model.specs.declared.disk.Device.{Ghosts}
-use Rattle.block_list.specs.Slots.{ImageHoldsList}
-use Rattle.block_list.specs.declared.body.ListBody.{ListBody}
-use Rattle.store_entries.specs.declared.entry.Entry.{Entry}
 use Rattle.store_model.specs.History.{count_of}
-use Rattle.store_model.specs.State.{State}
-use Rattle.store_images.specs.Log.{LogHolds}
-use Rattle.store_images.specs.Stored.{BlocksStand, ImageStandsFor, IsTidy, KeepsStored, MayStandFor, first_number, ref_of}
-use Rattle.store_core.specs.Cores.{segment_of}
-use Rattle.store_core.specs.InUse.{AreInUse}
-use Rattle.store_core.specs.Opening.{BeginsAs, opened_state}
-use Rattle.store_core.specs.Past.{StoodFor}
+use Rattle.store_model.specs.RowSets.{Within}
+use Rattle.store_model.specs.State.{State, live_rows, state_rows}
+use Rattle.store_images.specs.Stored.{ImageStandsFor, IsTidy, KeepsStored, MayStandFor}
+use Rattle.store_core.specs.Opening.{BeginsAs, LeavesAlone, opened_state}
+use Rattle.store_core.specs.Waiting.{rows_outside}
+use Rattle.store_reopen.specs.Through.{StoodAmid}
+use Rattle.session_meaning.specs.declared.ending.Ending.TheVariants.{NotOpened}
 use Rattle.session_meaning.specs.At.{At, history_of}
-use Rattle.session_meaning.specs.Pushes.{unsure_entry}
+use Rattle.session_meaning.specs.Listed.{HaveKeyOf, ListsState}
+use Rattle.session_meaning.specs.Done.{AreDoneAmong}
+use Rattle.session_meaning.specs.Place.{ever_unsure, history_at, opened_at}
 use Rattle.session_meaning.specs.Runs.{Outcome}
-
--- the entry that isn't sure, of a run
-abbrev pub unsure_of_run : Outcome → Option Entry
-unsure_of_run o = unsure_entry o.items o.replies
 
 -- The run begins with what was stored: its first history is a base alone, each span of it once, that the disk's bytes stand for;
 -- and the store begins as one that was opened on these bytes at this moment.
@@ -34,66 +30,65 @@ pub record Begins (held : Image) (moment : ℕ) (first : At) : Type 0 where
 
 -- It stands for the last history, or for it and then the entry that isn't sure.
 abbrev pub StandsForLast : Outcome → Image → Type 0
-StandsForLast o image = MayStandFor (history_of o.last) (unsure_of_run o) image
+StandsForLast o image = MayStandFor (history_at o.last) o.last.unsure image
 
 -- Each of these images does.
 abbrev pub Returns : (Image → Type 0) → Outcome → Type 0
 Returns may_leave o = (image : Image) → may_leave image → StandsForLast o image
 
--- It stands for a history that begins with the first one and that the last one begins with, or for the last one and then the
--- entry that isn't sure.
+-- It stands for the last history as it was at some length, not below that of the first one; or as it was where a push answered
+-- `disk-fault`, and then for that push too.
 abbrev pub StandsWithin : Outcome → Image → Type 0
-StandsWithin o image = StoodFor (count_of (history_of o.first)) (history_of o.last) (unsure_of_run o) image
+StandsWithin o image = StoodAmid (count_of (history_of o.first)) (history_at o.last) (ever_unsure o.last) image
 
--- Each of these images keeps what an image stored at the start; or, once the store was opened, it stands for a history in
--- between.
+-- Each of these images comes from one that might have been left at the start, and keeps what that one stored; or, in a run that opened
+-- the store, it stands for a history in between. At which moment it may be left isn't said.
 abbrev pub Leaves : (Image → Type 0) → (Image → Type 0) → Outcome → Type 0
 Leaves at_start since o =
     (image : Image) → since image → Reached KeepsStored at_start image ⊎ (IsTrue o.opened × StandsWithin o image)
 
 -- ---- upkeep
 
--- The image lists the state: the list that counts in it names the state's blocks, segments and floor, and the blocks' files stand for
--- their rows. Each file that the list names, or that was given out since, is one of the state's: a segment's or a block's, a loose one,
--- or an open job's.
-pub record ListsState (image : Image) (u : State) : Type 0 where
-  pub list : ListBody
-  pub counts : ImageHoldsList image (Some list)
-  pub blocks : list.blocks ≡ map ref_of u.blocks
-  pub built : BlocksStand image u.blocks
-  pub segments : u.segments ≡ map segment_of list.segments
-  pub floor : u.floor ≡ list.floor
-  pub used : AreInUse list u
-
 -- Each of these images lists the last state.
 abbrev pub ListsLast : (Image → Type 0) → Outcome → Type 0
-ListsLast may_leave o = (image : Image) → may_leave image → ListsState image o.last.machine.state
+ListsLast may_leave o = (image : Image) → may_leave image → ListsState image o.last.store.machine.state
 
 -- In each of these images a file has bytes only where the list that counts names it, as far as files were given out.
 abbrev pub AreTidy : (Image → Type 0) → Type 0
 AreTidy images = (image : Image) → images image → IsTidy image
 
 -- A store that was opened on an image that lists the state begins in this one: with that state's blocks, segments and floor, with the
--- rows of the log from the floor on, and with no loose file and no job.
+-- rows of the log from the floor on, and with no loose file and no job. Its next file is the list's, and so at most that of the state.
+-- Each row that waited outside of blocks is live, and each live one has a key that the state had.
 pub record BeginsListed (image : Image) (u : State) (moment : ℕ) (first : State) : Type 0 where
   pub lists : ListsState image u
-  pub batches : List (List Span)
-  pub logged : LogHolds image lists.list.segments (first_number lists.list) batches
-  pub begins : first ≡ opened_state lists.list u.blocks batches moment
+  pub begins : first ≡ opened_state lists.list u.blocks lists.batches moment
   pub blocks : first.blocks ≡ u.blocks
   pub segments : first.segments ≡ u.segments
   pub floor : first.floor ≡ u.floor
+  pub next_file : first.next_file ≡ lists.list.next_file
+  pub given : first.next_file ≤ u.next_file
+  pub waits : Within (rows_outside u) (live_rows first.live)
+  pub known : (row : Row) → Contains (live_rows first.live) row → HaveKeyOf (state_rows u) row
 
 -- ---- a run
 
+-- A run that didn't open the store leaves the disk alone, but where a call of the disk failed: at most a vacant slot of the list is cut to
+-- its first byte. So it undoes nothing of the upkeep that earlier runs did.
+abbrev pub LeavesUnopened : {D : Type 0} → Ghosts D → D → D → Outcome → Type 0
+LeavesUnopened g disk later o = o.opened ≡ false → o.ending ≢ NotOpened → LeavesAlone g disk later
+
 -- A run over a disk that shows its bytes, which were a store's. Where the store was opened the run begins with what they store,
--- and each image that a crash may leave of the disk that is handed back stands for that and all pushes that were accepted. If the
--- store writes at the end, each such image lists its last state: what upkeep was told to have done stands on the disk, and no more.
--- Each image that a crash may have left at any moment of the run keeps what was stored at its start, or stands for that and the first
--- few of these pushes; and it is tidy where all were at the start.
+-- and each image that a crash may leave of the disk that is handed back stands for that and all pushes that were accepted, or for that
+-- and then the entry that isn't sure. If the store is open at the end and writes, each such image lists its last state: what upkeep was
+-- told to have done stands on the disk. Each image that a crash may have left at any moment of the run keeps what one could have left at
+-- its start; or it stands for that with the first few of these pushes, and it may be with one that wasn't sure. And it is tidy where all
+-- were at the start. Where the run opened its store again, it began on an image that a crash may have left since the start.
 pub record Recovers {D : Type 0} (g : Ghosts D) (disk later : D) (o : Outcome) : Type 0 where
   pub begins : IsTrue o.opened → Begins (g.held disk) o.moment o.first
   pub returned : IsTrue o.opened → Returns (g.may_leave later) o
-  pub kept_up : IsTrue o.opened → o.last.machine.read_only ≡ None → ListsLast (g.may_leave later) o
+  pub kept_up : IsTrue o.opened → o.last.is_open ≡ true → o.last.store.machine.read_only ≡ None → ListsLast (g.may_leave later) o
+  pub unopened : LeavesUnopened g disk later o
   pub any_moment : Leaves (g.may_leave disk) (g.left_since later (g.moment disk)) o
   pub tidy : AreTidy (g.may_leave disk) → AreTidy (g.left_since later (g.moment disk))
+  pub found : IsTrue o.opened → AreDoneAmong (g.left_since later (g.moment disk)) (opened_at o.first) o.acts o.replies o.last

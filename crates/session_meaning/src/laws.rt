@@ -5,7 +5,7 @@
 //! calls `pushes_have_their_causes` to have its contract, and nothing calls the others; proofs of `headline` and
 //! `trace_shell` cite the lemmas of some. The parameters name a core, before and after, or the disks of two runs.
 
-ghost use Rattle.std.specs.Prelude.{Bool, IsTrue, true, ◌≡◌, ◌≢◌, ◌⊎◌, ◌<◌, ◌≤◌, ◌+◌, ◌++◌, List, [], ◌∷◌, Option, Some, None, Ok, false, length, take, ℕ};
+ghost use Rattle.std.specs.Prelude.{Bool, IsTrue, true, ◌≡◌, ◌≢◌, ◌⊎◌, ◌<◌, ◌≤◌, ◌+◌, ◌++◌, List, [], ◌∷◌, Option, Some, None, Ok, false, length, map, ℕ};
 ghost use Rattle.std.specs.List.{Contains, list_any};
 ghost use Rattle.command_words.specs.Commands.{Command, Spells};
 ghost use Rattle.disk_model.specs.Counts.{RoseBy};
@@ -41,27 +41,37 @@ ghost use Rattle.store_core.specs.Past.{StandsSince};
 ghost use Rattle.store_core.specs.Port.{port_of};
 ghost use Rattle.store_core.specs.Waiting.{rows_outside};
 ghost use Rattle.store_model.specs.Step.{Machine};
+ghost use Rattle.store_reopen.specs.Reopened.{disk_of};
+ghost use Rattle.store_reopen.specs.Through.{StoodAmid};
 ghost use Rattle.store_state.specs.Made.{AreMade, Call};
 ghost use Rattle.store_state.specs.declared.rounds.Refusal.{Refusal as Cause};
 ghost use Rattle.store_state.specs.declared.rounds.Round.{Round};
 ghost use Rattle.store_state.specs.declared.rounds.Round.TheVariants.{Did, Nothing, Refused as IsRefused};
+ghost use Rattle.session_meaning.specs.Act.{Act};
+ghost use Rattle.session_meaning.specs.Act.Act.{Ask};
 ghost use Rattle.session_meaning.specs.Answering.{AreItemsAnswered, CallsLead, IsAnsweredByCalls, at_core};
-ghost use Rattle.session_meaning.specs.Causes.{HasCompactCause, HasFlushCause, HasPushCause, HasWriteCause, blames_disk, disk_faults};
+ghost use Rattle.session_meaning.specs.Causes.{HasCompactCause, HasFlushCause, HasPushCause, HasWriteCause, act_blames_disk, blames_disk, disk_faults};
+ghost use Rattle.session_meaning.specs.Done.{AreDone, AreDoneAmong};
+ghost use Rattle.session_meaning.specs.Kept.{begun_with, kept_after_all, kept_at, were_unsure};
+ghost use Rattle.session_meaning.specs.Listed.{ListsState};
+ghost use Rattle.session_meaning.specs.Over.{AreDoneOver, IsKeptAt, IsShownAt};
+ghost use Rattle.session_meaning.specs.Place.{Place, opened_at};
 ghost use Rattle.session_meaning.specs.Rounds.{HasJoined, HasListed, IsCompacted, IsDoneOrStarved, IsFlushed, IsRound};
 ghost use Rattle.session_meaning.specs.declared.ending.Ending.TheVariants.{Answered, NotOpened, Starved};
 ghost use Rattle.session_meaning.specs.Progress.{AreAnsweredOver, FollowsOver};
-ghost use Rattle.session_meaning.specs.Pushes.{HasRoomFor, HasRoomForPush, accepted_entries, known_pushes};
+ghost use Rattle.session_meaning.specs.Pushes.{HasRoomFor, HasRoomForPush, HasRoomNow, accepted_entries, known_pushes};
 ghost use Rattle.session_meaning.specs.Runs.{ComesToItsEnd, Edges, GoesWell, IsRunOf, Outcome, TellsAll};
 ghost use Rattle.session_meaning.specs.At.{At, IsStill, history_of};
 ghost use Rattle.session_meaning.specs.Duties.{Duty, Follows, duties, from_lines};
 ghost use Rattle.session_meaning.specs.Ingest.{AreJoined, Far, HasFinished, Ingests, Pushes, Stand};
-ghost use Rattle.session_meaning.specs.Ingest.Far.{stopped, whole};
-ghost use Rattle.session_meaning.specs.Session.{IsAnswered, IsAnsweredOrRefused, IsFound, IsFoundSeen, IsSure, IsTraceIn, IsTraceSeen, Session, is_refused};
-ghost use Rattle.session_meaning.specs.Stops.{AreTidy, BeginsListed, ListsState, Recovers, StandsForLast, StandsWithin, unsure_of_run};
-ghost use Rattle.session_meaning.specs.Upkeep.{HasEmptied, HasFailedSince, IsClosed};
+ghost use Rattle.session_meaning.specs.Ingest.Far.{so_far, whole};
+ghost use Rattle.session_meaning.specs.Session.{IsAnswered, IsAnsweredOrRefused, IsFound, IsFoundSeen, IsSure, IsTraceIn, IsTraceSeen, Session, is_refusal, is_refused};
+ghost use Rattle.session_meaning.specs.Stops.{AreTidy, BeginsListed, Recovers, StandsForLast, StandsWithin};
+ghost use Rattle.session_meaning.specs.Upkeep.{HasEmptied, HasFailedSince, HasNoJob, IsClosed};
 
 use disk_model::Device;
 use store_core::Core;
+use store_reopen::Store;
 
 /// What is answered by calls of a store is answered as the history says, but that of the rows which queries see in
 /// blocks nothing is said: the machine of the store, with its logs and pins, tells no more than the pushes do.
@@ -96,52 +106,93 @@ pub fn a_core_answers_as_the_history_says<D: Device>(old: &Core<D>, new: &Core<D
         (at_core D.Device.own new.now later) }
 {}
 
+/// What is done over a store that is open or closed is what a session means.
+pub fn a_store_answers_as_the_history_says<D: Device>(old: &Store<D>, new: &Store<D>)
+    // Whatever its disk holds, from a place on at which it is shown to one at which it is then.
+    ensures shown { (acts : List Act) (replies : List Reply) (first : Place)
+        → AreDoneOver D.Device.own old.now acts replies new.now
+        → IsShownAt D.Device.own old.now first
+        → (last : Place) × IsShownAt D.Device.own new.now last
+        × AreDone false first acts replies last }
+    // Where its disk shows its bytes, and what it stores was kept since an earlier disk: then that is kept still.
+    ensures kept { (acts : List Act) (replies : List Reply) (first : Place) (start : D) (least : ℕ)
+        → AreDoneOver D.Device.own old.now acts replies new.now
+        → IsKeptAt D.Device.own start least old.now first → IsTrue (D.tells (disk_of old.now))
+        → (last : Place) × IsKeptAt D.Device.own start least new.now last
+        × AreDone true first acts replies last }
+    // Then each opening finds an image that a crash may have left since that earlier disk.
+    ensures found { (acts : List Act) (replies : List Reply) (first : Place) (start : D) (least : ℕ)
+        → AreDoneOver D.Device.own old.now acts replies new.now
+        → IsKeptAt D.Device.own start least old.now first → IsTrue (D.tells (disk_of old.now))
+        → (last : Place) × IsKeptAt D.Device.own start least new.now last
+        × AreDoneAmong (D.left_since (disk_of new.now) (D.moment start)) first acts replies last }
+    // What is done so is done, whichever image an opening finds.
+    ensures done { (left : Image
+        → Type 0) (acts : List Act) (replies : List Reply) (first last : Place)
+        → AreDoneAmong left first acts replies last → AreDone true first acts replies last }
+{}
+
+/// What is asked of an open store, with no reopening in between, is a session: so all that is said of sessions is said of
+/// what comes after an opening that went well, until the next one.
+pub fn what_is_asked_in_between_is_a_session()
+    ensures asked { (told : Bool) (items : List Item) (replies : List Reply) (first last : Place)
+        → AreDone told first (map Ask items) replies last
+        → Session told first.store items replies last.store }
+    ensures parts { (told : Bool) (front back : List Act) (replies : List Reply)
+        (first last : Place) → AreDone told first (front ++ back) replies last
+        → (between : Place) × (earlier later : List Reply) × (replies ≡ earlier ++ later)
+        × AreDone told first front earlier between × AreDone told between back later last }
+{}
+
 /// What is asked of a core by the duties of an ingest follows them: from a machine on that its memory shows, or for
 /// which it stands, as of a session.
 pub fn a_core_ingests_as_the_history_says<D: Device>(old: &Core<D>, new: &Core<D>)
-    ensures shown { (todo left : List Duty) (told to_tell : Option (List ℕ)) (items : List Item)
+    ensures shown { (todo left : List Duty) (moments moments_left : Option (List ℕ))
+        (items : List Item)
         (replies : List Reply)
-        → FollowsOver D.Device.own todo told old.now items replies new.now left to_tell
+        → FollowsOver D.Device.own todo moments old.now items replies new.now left moments_left
         → (m : Machine)
         → CoreShows D.Device.own old.now m
         → (later : Machine) × CoreShows D.Device.own new.now later
-        × Follows false todo told (at_core D.Device.own old.now m) items replies
-        (at_core D.Device.own new.now later) left to_tell }
-    ensures since { (todo left : List Duty) (told to_tell : Option (List ℕ)) (items : List Item)
+        × Follows false todo moments (at_core D.Device.own old.now m) items replies
+        (at_core D.Device.own new.now later) left moments_left }
+    ensures since { (todo left : List Duty) (moments moments_left : Option (List ℕ))
+        (items : List Item)
         (replies : List Reply)
-        → FollowsOver D.Device.own todo told old.now items replies new.now left to_tell
+        → FollowsOver D.Device.own todo moments old.now items replies new.now left moments_left
         → (m : Machine)
         → (start : D) (least : ℕ) → StandsSince D.Device.own start least old.now m
         → IsTrue (D.tells old.now.disk)
         → (later : Machine) × StandsSince D.Device.own start least new.now later
-        × Follows true todo told (at_core D.Device.own old.now m) items replies
-        (at_core D.Device.own new.now later) left to_tell }
+        × Follows true todo moments (at_core D.Device.own old.now m) items replies
+        (at_core D.Device.own new.now later) left moments_left }
 {}
 
 /// Whoever follows the duties of an ingest asks what an ingest asks.
 pub fn duties_make_an_ingest()
     // As far as it came.
-    ensures stops { (sure : Bool) (source : List (List ℕ)) (told to_tell : Option (List ℕ))
+    ensures stops { (told : Bool) (source : List (List ℕ)) (moments moments_left : Option (List ℕ))
         (left : List Duty) (items : List Item)
         → (replies : List Reply) (first last : At)
-        → Follows sure (duties source) told first items replies last left to_tell
-        → Ingests sure source (record { store = first; moments = told }) items replies
-        (record { store = last; moments = to_tell }) stopped }
+        → Follows told (duties source) moments first items replies last left moments_left
+        → Ingests told source (record { store = first; moments = moments }) items replies
+        (record { store = last; moments = moments_left }) so_far }
     // With nothing left, to its end.
-    ensures ends { (sure : Bool) (source : List (List ℕ)) (told to_tell : Option (List ℕ))
+    ensures ends { (told : Bool) (source : List (List ℕ)) (moments moments_left : Option (List ℕ))
         (items : List Item)
         → (replies : List Reply) (first last : At)
-        → Follows sure (duties source) told first items replies last [] to_tell
-        → Ingests sure source (record { store = first; moments = told }) items replies
-        (record { store = last; moments = to_tell }) whole }
+        → Follows told (duties source) moments first items replies last [] moments_left
+        → Ingests told source (record { store = first; moments = moments }) items replies
+        (record { store = last; moments = moments_left }) whole }
     // With these lines left, and what is to do at the end, it pushed the lines before them.
-    ensures reads { (sure : Bool) (pushed later : List (List ℕ)) (told to_tell : Option (List ℕ))
+    ensures reads { (told : Bool) (pushed later : List (List ℕ))
+        (moments moments_left : Option (List ℕ))
         (items : List Item)
         → (replies : List Reply) (first last : At)
-        → Follows sure (duties (pushed ++ later)) told first items replies last
-        (from_lines later) to_tell
-        → Pushes sure pushed (record { store = first; moments = told }) items replies
-        (record { store = last; moments = to_tell }) }
+        → Follows told (duties (pushed ++ later)) moments first items replies last
+        (from_lines later) moments_left
+        → Pushes told pushed (record { store = first; moments = moments }) items replies
+        (record { store = last; moments = moments_left }) }
 {}
 
 /// A session keeps that the rows of the store are those of its history, and leaves no job open while the store writes.
@@ -163,6 +214,10 @@ pub fn each_disk_fault_is_counted()
     ensures of_sessions { (told : Bool) (items : List Item) (replies : List Reply) (first last : At)
         → Session told first items replies last → list_any blames_disk items ≡ false
         → RoseBy (disk_faults replies) first.faults last.faults }
+    // Of what is done over reopenings.
+    ensures of_acts { (told : Bool) (acts : List Act) (replies : List Reply) (first last : Place)
+        → AreDone told first acts replies last → list_any act_blames_disk acts ≡ false
+        → RoseBy (disk_faults replies) first.store.faults last.store.faults }
     // No line is refused for a fault in reading.
     ensures of_lines { (moment : ℕ) (line : List ℕ) (refused : List (List ℕ)) (item : Item)
         → AsksAt moment line refused item → blames_disk item ≡ false }
@@ -179,6 +234,10 @@ pub fn replies_tell_the_history()
     ensures appended { (told : Bool) (items : List Item) (replies : List Reply) (first last : At)
         → Session told first items replies last
         → history_of last ≡ grown (history_of first) (accepted_entries items replies) }
+    // Over reopenings, where what the disk holds is told, all that is kept is what lines and replies tell by themselves.
+    ensures kept { (acts : List Act) (replies : List Reply) (first last : Place)
+        → AreDone true first acts replies last
+        → kept_at last ≡ kept_after_all (kept_at first) acts replies }
     // The number in an accepted push's reply is below the count of pushes that any later query knows of.
     ensures known_later { (told : Bool) (items : List Item) (earlier later : List Reply)
         (first last : At)
@@ -225,23 +284,22 @@ pub fn pushes_have_their_causes()
         × (number ≡ count_of (history_of before)) }
 {}
 
-/// What is stored, by the entries that were accepted. A run that is stopped is one over a disk of which from some call
-/// on every call fails: what it hands back then has each push that was accepted before the stop.
+/// What is stored, by what lines and replies tell. A run that is stopped is one over a disk of which from some call on
+/// every call fails: what it hands back then has each push that was accepted before the stop.
 pub fn accepted_pushes_are_stored()
-    // An image of the disk that is handed back: what was stored at first and after it all accepted entries, in order.
-    ensures returned { (told : Bool) (o : Outcome) (image : Image)
-        → Session told o.first o.items o.replies o.last
-        → StandsForLast o image
-        → MayStandFor (grown (history_of o.first) (accepted_entries o.items o.replies))
-        (unsure_of_run o) image }
-    // One since the store was opened: the same with the first few of these entries.
-    ensures at_any_moment { (told : Bool) (o : Outcome) (image : Image)
-        → Session told o.first o.items o.replies o.last
-        → StandsWithin o image
-        → ((n : ℕ) × ImageStandsFor image
-        (grown (history_of o.first) (take n (accepted_entries o.items o.replies))))
-        ⊎ MayStandFor (grown (history_of o.first) (accepted_entries o.items o.replies))
-        (unsure_of_run o) image }
+    // An image of the disk that is handed back: what was stored at first and after it all entries that were accepted, or
+    // that an opening found, in order.
+    ensures returned { (o : Outcome) (image : Image)
+        → AreDone true (opened_at o.first) o.acts o.replies o.last → StandsForLast o image
+        → MayStandFor (kept_after_all (begun_with (history_of o.first)) o.acts o.replies).history
+        (kept_after_all (begun_with (history_of o.first)) o.acts o.replies).unsure image }
+    // One since the store was opened: the same with the first few of these entries, and it may be with one more that
+    // wasn't sure.
+    ensures at_any_moment { (o : Outcome) (image : Image)
+        → AreDone true (opened_at o.first) o.acts o.replies o.last → StandsWithin o image
+        → StoodAmid (count_of (history_of o.first))
+        (kept_after_all (begun_with (history_of o.first)) o.acts o.replies).history
+        (were_unsure (kept_after_all (begun_with (history_of o.first)) o.acts o.replies)) image }
 {}
 
 /// Of the histories that an image stands for one is a base alone, in which each span stands once.
@@ -258,38 +316,65 @@ pub fn comes_to_an_end()
     ensures ends { (told : Bool) (words : List (List ℕ)) (c : Command) (o : Outcome)
         (old new : Edges) → Spells words c
         → IsRunOf told words o old new → GoesWell c old new → ComesToItsEnd o.ending }
-    // And where nothing was refused in reading, the store had room, and what its blocks hold is told, nothing is
-    // refused but for memory.
+    // And where nothing was refused in reading, the store wasn't opened again, it had room, and what its blocks hold is
+    // told, nothing is refused but for memory.
     ensures well { (words : List (List ℕ)) (c : Command) (o : Outcome) (old new : Edges)
         → Spells words c
         → IsRunOf true words o old new → GoesWell c old new
-        → (before : List ℕ) → old.taken ≡ Some before → list_any is_refused o.items ≡ false
-        → HasRoomFor o.items o.first.machine → (o.ending ≡ Answered) ⊎ (o.ending ≡ Starved) }
+        → (before : List ℕ) → old.taken ≡ Some before
+        → (items : List Item) → o.acts ≡ map Ask items → list_any is_refused items ≡ false
+        → HasRoomFor items o.first.machine → (o.ending ≡ Answered) ⊎ (o.ending ≡ Starved) }
+{}
+
+/// What is asked of a store that has room for it is refused for no cause but memory, or its own words: whatever was
+/// asked before, so also late in a long session or ingest. What the blocks hold is told.
+pub fn what_has_room_is_done()
+    // Of a store that writes and has no job open, where no call of the disk fails.
+    ensures one { (item : Item) (before after : At) (reply : Reply)
+        → IsAnsweredOrRefused true item before reply after → (Rose before.faults after.faults → ⊥)
+        → before.machine.read_only ≡ None → HasNoJob before.machine
+        → HasRoomNow item before.machine → is_refusal reply ≡ is_refused item }
+    // Each line, at its own place: from such a store on, over reopenings, as long as no call fails.
+    ensures each { (front back : List Act) (item : Item) (earlier later : List Reply)
+        (reply : Reply) (first last : Place) → length front ≡ length earlier
+        → AreDone true first (front ++ Ask item ∷ back) (earlier ++ reply ∷ later) last
+        → (Rose first.store.faults last.store.faults → ⊥)
+        → first.store.machine.read_only ≡ None → HasNoJob first.store.machine
+        → (at : Place) × AreDone true first front earlier at × (at.is_open ≡ true)
+        × (HasRoomNow item at.store.machine → is_refusal reply ≡ is_refused item) }
+    // So of each line of a run in which no call failed.
+    ensures of_runs { (words : List (List ℕ)) (c : Command) (o : Outcome) (old new : Edges)
+        → Spells words c → IsRunOf true words o old new → GoesWell c old new
+        → (front back : List Act) (item : Item) (earlier later : List Reply) (reply : Reply)
+        → o.acts ≡ front ++ Ask item ∷ back → o.replies ≡ earlier ++ reply ∷ later
+        → length front ≡ length earlier
+        → (at : Place) × AreDone true (opened_at o.first) front earlier at × (at.is_open ≡ true)
+        × (HasRoomNow item at.store.machine → is_refusal reply ≡ is_refused item) }
 {}
 
 /// What an ingest asks is asked and answered as in a session, so all that is said of sessions is said of it.
 pub fn an_ingest_is_a_session()
-    ensures as_far { (sure : Bool) (source : List (List ℕ)) (before after : Stand)
+    ensures as_far { (told : Bool) (source : List (List ℕ)) (before after : Stand)
         (items : List Item) (replies : List Reply)
-        → (far : Far) → Ingests sure source before items replies after far
-        → Session sure before.store items replies after.store }
-    ensures lines { (sure : Bool) (source : List (List ℕ)) (before after : Stand)
+        → (far : Far) → Ingests told source before items replies after far
+        → Session told before.store items replies after.store }
+    ensures lines { (told : Bool) (source : List (List ℕ)) (before after : Stand)
         (items : List Item) (replies : List Reply)
-        → Pushes sure source before items replies after
-        → Session sure before.store items replies after.store }
-    ensures duties { (sure : Bool) (todo left : List Duty) (told to_tell : Option (List ℕ))
+        → Pushes told source before items replies after
+        → Session told before.store items replies after.store }
+    ensures duties { (told : Bool) (todo left : List Duty) (moments moments_left : Option (List ℕ))
         (items : List Item)
         → (replies : List Reply) (first last : At)
-        → Follows sure todo told first items replies last left to_tell
-        → Session sure first items replies last }
+        → Follows told todo moments first items replies last left moments_left
+        → Session told first items replies last }
 {}
 
 /// An ingest that came to its end has cut and flushed there, has compacted until a compaction joined no blocks, and then
 /// emptied loose files.
 pub fn an_ingest_finishes()
-    ensures { (sure : Bool) (source : List (List ℕ)) (before after : Stand) (items : List Item)
+    ensures { (told : Bool) (source : List (List ℕ)) (before after : Stand) (items : List Item)
         (replies : List Reply)
-        → Ingests sure source before items replies after whole → HasFinished items replies }
+        → Ingests told source before items replies after whole → HasFinished items replies }
 {}
 
 /// What a flush makes of the store.
@@ -399,16 +484,17 @@ pub fn upkeep_stands_on_the_disk<D: Device>(old: &Core<D>, new: &Core<D>)
 
 /// What the upkeep of a run left is there as the next one begins.
 pub fn the_next_run_begins_as_listed<D: Device>(begun: &D, left: &D, disk: &D, later: &D)
-    // A store that is opened on an image that lists a state begins with its blocks, segments and floor, and with the
-    // log's rows from the floor on.
-    ensures begins { (image : Image) (u : State) (h : History) (moment : ℕ) (m : Machine)
-        → ListsState image u
-        → ImageStandsFor image h → BeginsAs image moment m → BeginsListed image u moment m.state }
+    // A store that is opened on an image that lists a state begins with its blocks, segments and floor. It gives out no
+    // later file than that state would, each row that waited is live, and no live row has a key that the state hadn't.
+    ensures begins { (image : Image) (u : State) (moment : ℕ) (m : Machine) → ListsState image u
+        → BeginsAs image moment m → BeginsListed image u moment m.state }
     // So does the next run on what an earlier one left that wrote to its end.
     ensures next_run { (one next : Outcome) → Recovers D.Device.own begun.now left.now one
         → Recovers D.Device.own disk.now later.now next → IsTrue one.opened → IsTrue next.opened
-        → one.last.machine.read_only ≡ None → D.may_leave left.now (D.held disk.now)
-        → BeginsListed (D.held disk.now) one.last.machine.state next.moment next.first.machine.state }
+        → one.last.is_open ≡ true → one.last.store.machine.read_only ≡ None
+        → D.may_leave left.now (D.held disk.now)
+        → BeginsListed (D.held disk.now) one.last.store.machine.state next.moment
+        next.first.machine.state }
     // In a tidy image that lists a state a file that was given out is empty, or it is one of the state's.
     ensures in_use { (image : Image) (u : State) (file : ℕ) → ListsState image u → IsTidy image
         → 2 ≤ file

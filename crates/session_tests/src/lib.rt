@@ -3,6 +3,8 @@
 #![tactic(auto)]
 
 #[cfg(test)]
+mod reopen_tests;
+#[cfg(test)]
 mod run_tests;
 #[cfg(test)]
 mod search_tests;

@@ -404,6 +404,7 @@ fn compactions_are_acknowledged(rt: HostRuntime) {
     check_reply(&rt, compacted, "ok compact blocks=4 rows=1048576\n");
     check_reply(&rt, Reply::NothingCompacted, "ok compact nothing\n");
     check_reply(&rt, Reply::Reclaimed { files: 0 }, "ok reclaim files=0\n");
+    check_reply(&rt, Reply::Reopened { entries: 7 }, "ok reopen entries=7\n");
 }
 
 fn check_refusal(rt: &(impl Abort + AllocGlobal), why: Refusal, wanted: &str) {
@@ -443,6 +444,7 @@ fn refusals_of_a_store_are_written(rt: HostRuntime) {
         "refused read-only faults=1\n",
     );
     check_refusal(&rt, Refusal::DiskFault, "refused disk-fault\n");
+    check_refusal(&rt, Refusal::Closed, "refused closed\n");
     let bytes = Refusal::NotStore {
         file: 3,
         at: 16_383,

@@ -8,9 +8,9 @@ use Rattle.session_text.specs.declared.refusal.KindFault.TheVariants as kind
 use Rattle.session_text.specs.declared.refusal.QueryFault.{QueryFault}
 use Rattle.session_text.specs.declared.refusal.QueryFault.TheVariants as query
 use Rattle.session_text.specs.declared.refusal.Refusal.{Refusal}
-use Rattle.session_text.specs.declared.refusal.Refusal.TheVariants.{TooLong, BadRequest, BadJson, BadOtlp, TooMany, BadQuery, BadType, BadPattern, PatternTooBig, TooManyBuckets, LiveFull, StoreFull, ReadOnly, DiskFault, Round, NotStore, Memory}
+use Rattle.session_text.specs.declared.refusal.Refusal.TheVariants.{TooLong, BadRequest, BadJson, BadOtlp, TooMany, BadQuery, BadType, BadPattern, PatternTooBig, TooManyBuckets, LiveFull, StoreFull, ReadOnly, DiskFault, Round, Closed, NotStore, Memory}
 use Rattle.session_text.specs.declared.reply.Reply.{Reply}
-use Rattle.session_text.specs.declared.reply.Reply.TheVariants.{Pushed, Traced, Searched, Measured, Cut, CutAll, Flushed, NothingFlushed, Compacted, NothingCompacted, Reclaimed, Refused}
+use Rattle.session_text.specs.declared.reply.Reply.TheVariants.{Pushed, Traced, Searched, Measured, Cut, CutAll, Flushed, NothingFlushed, Compacted, NothingCompacted, Reclaimed, Reopened, Refused}
 use Rattle.store_state.specs.declared.rounds.Refusal.{Refusal as RoundRefusal}
 use Rattle.store_state.specs.declared.rounds.Refusal.TheVariants as round
 
@@ -59,6 +59,10 @@ compacted_text blocks rows = texts (codes "ok compact blocks=" ∷ decimal block
 -- How many loose files were emptied.
 abbrev pub reclaimed_text : ℕ → List ℕ
 reclaimed_text files = texts (codes "ok reclaim files=" ∷ decimal files ∷ codes "\n" ∷ [])
+
+-- A reopening: how many pushes the history then has.
+abbrev pub reopened_text : ℕ → List ℕ
+reopened_text entries = texts (codes "ok reopen entries=" ∷ decimal entries ∷ codes "\n" ∷ [])
 
 -- A refusal with what it names.
 abbrev pub refused_text : List ℕ → List ℕ → List ℕ
@@ -114,6 +118,7 @@ refusal_text (StoreFull pushes) = refused_text (codes "store-full pushes=") (dec
 refusal_text (ReadOnly faults) = refused_text (codes "read-only faults=") (decimal faults)
 refusal_text DiskFault = refused_text (codes "disk-fault") []
 refusal_text (Round why) = round_text why
+refusal_text Closed = refused_text (codes "closed") []
 refusal_text (NotStore file at) = not_store_text file at
 refusal_text Memory = refused_text (codes "memory") []
 
@@ -130,4 +135,5 @@ reply_text NothingFlushed = codes "ok flush nothing\n"
 reply_text (Compacted blocks rows) = compacted_text blocks rows
 reply_text NothingCompacted = codes "ok compact nothing\n"
 reply_text (Reclaimed files) = reclaimed_text files
+reply_text (Reopened entries) = reopened_text entries
 reply_text (Refused why) = refusal_text why

@@ -1,5 +1,5 @@
 -- What a line asks, or why it asks nothing.
-use Rattle.std.specs.Prelude.{◌≡◌, ◌⊎◌, ⊤, ℕ, ◌+◌, ◌≤◌, List, [], ◌++◌, length, codes, nat_le, if◌then◌else◌, Option, Some, None, Result, Ok, Err}
+use Rattle.std.specs.Prelude.{◌≡◌, ◌⊎◌, ⊤, ℕ, Bool, ◌+◌, ◌≤◌, List, [], ◌++◌, length, codes, nat_le, if◌then◌else◌, Option, Some, None, Result, Ok, Err}
 use Rattle.std.specs.Str.{bytes_eq, is_utf8}
 use Rattle.span_types.specs.declared.ids.TraceId.{TraceId}
 use Rattle.span_types.specs.declared.limits.TheConstants.{MOST_SPANS}
@@ -127,6 +127,10 @@ AsksAt moment line refused result = Answers (line_of moment line) refused result
 -- The same at some moment.
 abbrev pub Asks : List ℕ → List (List ℕ) → Result Request Refusal → Type 0
 Asks line refused result = (moment : ℕ) × AsksAt moment line refused result
+
+-- The line by which a session closes its store and opens it again: this word and nothing else. It is no request.
+abbrev pub is_reopen : List ℕ → Bool
+is_reopen line = bytes_eq line (codes "reopen")
 
 -- What a line of a source is whose lines are pushed, read at a moment: the request `push`, one space and that line. The limit counts
 -- the source's line alone.

@@ -20,7 +20,7 @@ mod request;
 mod searching;
 mod writing;
 
-pub use reading::{read_push, read_request};
+pub use reading::{is_reopen, read_push, read_request};
 pub use refusal::{KindFault, QueryFault, Refusal};
 pub use reply::Reply;
 pub use request::{Metrics, Request, Search};

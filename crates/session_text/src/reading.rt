@@ -6,7 +6,7 @@ ghost use Rattle.session_text.specs.declared.refusal.Refusal.TheVariants.{Memory
 ghost use Rattle.session_text.specs.Lines.{first_part, other_parts};
 ghost use Rattle.session_text.specs.MetricsLines.{metrics_parts};
 ghost use Rattle.session_text.specs.Options.{search_parts};
-ghost use Rattle.session_text.specs.Requests.{Answers, AsksAt, AsksPush, HasFewSpans, alone, line_of, metrics_with, other_line, push_with, search_with, trace_with, with_id};
+ghost use Rattle.session_text.specs.Requests.{Answers, AsksAt, AsksPush, HasFewSpans, alone, is_reopen, line_of, metrics_with, other_line, push_with, search_with, trace_with, with_id};
 ghost use Rattle.session_text.specs.Parsed.{left_parsed};
 
 use crate::measuring::metrics;
@@ -67,6 +67,13 @@ pub fn read_request<P: PatternMaker>(
         Ok(text) => asked_by(alloc, text, moment, maker),
         Err(_) => Err(Refusal::BadRequest { at: 0 }),
     }
+}
+
+/// Whether a line is the one by which a session closes its store and opens it again: the word `reopen` alone.
+pub fn is_reopen(line: &[u8]) -> bool
+    ensures { result ≡ is_reopen line.now }
+{
+    line == b"reopen".as_slice()
 }
 
 /// What a line of a source asks whose lines are pushed, read at this moment, in nanoseconds: what the request `push`,

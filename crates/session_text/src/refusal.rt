@@ -65,6 +65,8 @@ pub enum Refusal {
     DiskFault,
     /// A round of a flush or of a compaction was refused.
     Round(store_state::Refusal),
+    /// The store is closed, since the last opening of it was refused. The line wasn't read.
+    Closed,
     /// What the disk holds is no store.
     NotStore {
         /// The file that is malformed.

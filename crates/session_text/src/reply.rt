@@ -73,6 +73,11 @@ pub enum Reply {
         /// How many.
         files: u64,
     },
+    /// The store was closed and opened again.
+    Reopened {
+        /// How many pushes its history then has.
+        entries: u64,
+    },
     /// The line is refused, and nothing was kept.
     Refused(Refusal),
 }

@@ -2,7 +2,7 @@
 
 ghost use Rattle.std.specs.Prelude.{◌≡◌, IfOk, codes, string_bytes};
 ghost use Rattle.session_text.specs.declared.reply.Reply.TheVariants.{Measured, Searched, Traced};
-ghost use Rattle.session_text.specs.Replies.{compacted_text, cut_all_text, cut_text, flushed_text, kind_text, measured_text, not_block_text, not_store_text, pushed_text, query_text, reclaimed_text, refusal_text, refused_text, reply_text, round_text, searched_text, traced_text};
+ghost use Rattle.session_text.specs.Replies.{compacted_text, cut_all_text, cut_text, flushed_text, kind_text, measured_text, not_block_text, not_store_text, pushed_text, query_text, reclaimed_text, refusal_text, refused_text, reopened_text, reply_text, round_text, searched_text, traced_text};
 
 use crate::{KindFault, QueryFault, Refusal, Reply};
 use otlp_spans::write_trace;
@@ -46,6 +46,7 @@ fn text_of(alloc: Global, reply: &Reply) -> Result<String, Memory>
         Reply::Compacted { blocks, rows } => Ok(compacted(alloc, *blocks, *rows)?),
         Reply::NothingCompacted => Ok(String::from_str(alloc, "ok compact nothing\n")?),
         Reply::Reclaimed { files } => Ok(reclaimed(alloc, *files)?),
+        Reply::Reopened { entries } => Ok(reopened(alloc, *entries)?),
         Reply::Refused(why) => Ok(refused(alloc, why)?),
     }
 }
@@ -152,6 +153,13 @@ fn reclaimed(alloc: Global, files: u64) -> Result<String, AllocError>
     format!(in alloc; "ok reclaim files={files}\n")
 }
 
+/// The reply to a reopening.
+fn reopened(alloc: Global, entries: u64) -> Result<String, AllocError>
+    ensures { IfOk result (λ text. string_bytes text ≡ reopened_text entries) }
+{
+    format!(in alloc; "ok reopen entries={entries}\n")
+}
+
 /// The line of a refusal: its name, and the numbers or the text that go with it.
 fn refused(alloc: Global, why: &Refusal) -> Result<String, AllocError>
     ensures { IfOk result (λ text. string_bytes text ≡ refusal_text why.now) }
@@ -174,6 +182,7 @@ fn refused(alloc: Global, why: &Refusal) -> Result<String, AllocError>
         Refusal::ReadOnly { faults } => format!(in alloc; "refused read-only faults={faults}\n"),
         Refusal::DiskFault => String::from_str(alloc, "refused disk-fault\n"),
         Refusal::Round(why) => round(alloc, *why),
+        Refusal::Closed => String::from_str(alloc, "refused closed\n"),
         Refusal::NotStore { file, at } => not_store(alloc, *file, *at),
         Refusal::Memory => String::from_str(alloc, "refused memory\n"),
     }

@@ -1,1 +1,1 @@
-mod Through
+pub mod Through

@@ -112,14 +112,19 @@ amid_later least h h' pending later image follows more stood = elim stood [
 pub core_keeps : {D : Type 0} (g : Ghosts D) (core : Core D) (m : Machine) → CoreStandsFor g core m → Keeps g core.disk m.history (unsure_of core.state)
 core_keeps g core m stands = stands.stands.now
 
+-- what a disk keeps now it has kept since now
+pub keeps_from_then : {D : Type 0} (g : Ghosts D) (only_now : (disk : D) (image : Image) → g.left_since disk (g.moment disk) image → g.may_leave disk image) (disk : D) (h : History) (unsure : Option Entry)
+    → Keeps g disk h unsure → KeepsThrough g disk (count_of h) [] disk h unsure
+keeps_from_then g only_now disk h unsure keeps = record {
+  now = keeps;
+  reached = omega arith;
+  past = λ told. started g.moment g.left_since disk (StoodAmid (count_of h) h ([] ++ pending_now h unsure))
+      (λ image left. amid_now (count_of h) h unsure [] image (omega arith) (keeps told image (only_now disk image left)));
+}
+
 pub keeps_from_now : {D : Type 0} (g : Ghosts D) (only_now : (disk : D) (image : Image) → g.left_since disk (g.moment disk) image → g.may_leave disk image) (core : Core D) (m : Machine)
     → CoreStandsFor g core m → KeepsThrough g core.disk (count_of m.history) [] core.disk m.history (unsure_of core.state)
-keeps_from_now g only_now core m stands = record {
-  now = core_keeps g core m stands;
-  reached = omega arith;
-  past = λ told. started g.moment g.left_since core.disk (StoodAmid (count_of m.history) m.history ([] ++ pending_now m.history (unsure_of core.state)))
-      (λ image left. amid_now (count_of m.history) m.history (unsure_of core.state) [] image (omega arith) (stands.stands.now told image (only_now core.disk image left)));
-}
+keeps_from_now g only_now core m stands = keeps_from_then g only_now core.disk m.history (unsure_of core.state) (core_keeps g core m stands)
 
 -- an opening finds what the disk holds
 pub goes_on : {D : Type 0} (g : Ghosts D) (held_may_stay : (disk : D) → IsTrue (g.tells disk) → g.may_leave disk (g.held disk)) (disk : D) (core : Core D) (h : History) (unsure : Option Entry) (moment : ℕ)
@@ -131,6 +136,7 @@ goes_on g held_may_stay disk core h unsure moment told keeps opened = by_unsure 
         let m = opened.stands told x stands in record {
           machine = m.0;
           stands = m.1;
+          stored = subst (ImageStandsFor (g.held disk)) (sym m.2) stands;
           history = subst (MayHaveAdded u h) (sym m.2) added;
           begins = m.3;
           sure = m.1.stands.sure (sym m.1.stands.has.read_only ∙ m.3.writes);

@@ -25,6 +25,7 @@ MayHaveAdded (Some entry) h found = (found ≡ h) ⊎ (found ≡ grown h (entry 
 pub record GoesOn {D : Type 0} (g : Ghosts D) (disk : D) (moment : ℕ) (core : Core D) (h : History) (unsure : Option Entry) : Type 0 where
   pub machine : Machine
   pub stands : CoreStandsFor g core machine
+  pub stored : ImageStandsFor (g.held disk) machine.history
   pub history : MayHaveAdded unsure h machine.history
   pub begins : BeginsAs (g.held disk) moment machine
   pub sure : unsure_of core.state ≡ None

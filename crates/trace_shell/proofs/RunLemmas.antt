@@ -26,6 +26,7 @@ use Rattle.session_meaning.specs.declared.ending.Ending.TheVariants.{Answered, B
 use Rattle.session_meaning.specs.Asked.{after_moment}
 use Rattle.session_meaning.specs.Runs.{Does, DoesInStore, Edges, FitsWords, HasAnswered, HasCause, HasIngested, HasRun, IsNoStore, IsPastOpening, IsRunOf, Outcome, told_bytes}
 use Rattle.session_meaning.specs.At.{At}
+use Rattle.session_meaning.specs.Place.{opened_at}
 use Rattle.session_meaning.specs.Statuses.{status_of}
 use Rattle.session_meaning.specs.Stops.{Recovers}
 use Rattle.session_meaning.proofs.Following.{came_so_far}
@@ -93,7 +94,7 @@ no_line_of_session words line s t = session_is_not_alone line (spelled_one words
 -- ---- in a store that was opened
 
 pub in_store : (sure : Bool) (c : Command) (o : Outcome) (old new : Edges)
-    → CameTo sure c o.first o.last old.left old.taken (after_moment old.moments) new.left new.taken new.moments o.ending o.items o.replies o.refused → DoesInStore sure c o old new
+    → CameTo sure c o.first o.last old.left old.taken (after_moment old.moments) new.left new.taken new.moments o.ending o.acts o.replies o.refused → DoesInStore sure c o old new
 in_store sure session o old new came =
     if_some old.left (λ text. IfSome old.taken (λ before. HasRun text before o old new)) (λ text left.
     if_some old.taken (λ before. HasRun text before o old new) (λ before taken.
@@ -105,23 +106,25 @@ in_store sure session o old new came =
       clock = w.clock;
       ends = w.ends;
     }))
-in_store sure ingest o old new (none, came) =
+in_store sure ingest o old new (items, acts_are, none, came) =
     if_some old.left (λ text. IfSome old.taken (λ before. HasIngested sure text before o old new)) (λ text left.
     if_some old.taken (λ before. HasIngested sure text before o old new) (λ before taken.
     let w = came text before left taken in record {
+      items = items;
+      acts_are = acts_are;
       pushed = w.pushed;
       later = w.later;
       lines_are = w.lines_are;
-      asked = came_so_far sure o.ending (lines text) w.pushed w.later (after_moment old.moments) new.moments o.items o.replies o.first o.last w.todo w.lines_are w.asked w.is_left;
+      asked = came_so_far sure o.ending (lines text) w.pushed w.later (after_moment old.moments) new.moments items o.replies o.first o.last.store w.todo w.lines_are w.asked w.is_left;
       no_refused = none;
       ends = w.ends;
     }))
-in_store sure (Alone line) o old new (item, reply, items, replies, own, asked, clock, ends) = (
+in_store sure (Alone line) o old new (item, reply, acts, replies, own, asked, clock, ends) = (
   own,
   if_some old.taken (λ before. HasAnswered line before o old new) (λ before taken. record {
     item = item;
     reply = reply;
-    items_are = items;
+    acts_are = acts;
     replies_are = replies;
     asked = asked;
     clock = clock;
@@ -137,18 +140,20 @@ nowhere = record { machine = new_machine (record { base = []; start = 0; entries
 
 -- a run whose store wasn't opened
 abbrev pub unopened : Ending → Outcome
-unopened e = record { ending = e; opened = false; moment = 0; first = nowhere; items = []; refused = []; replies = []; last = nowhere }
+unopened e = record { ending = e; opened = false; moment = 0; first = nowhere; acts = []; refused = []; replies = []; last = opened_at nowhere }
 
 no_truth : IsTrue false → ⊥
 no_truth e = let bad : false ≡ true = e in cc
 
 -- It keeps what was stored where each image since its start does.
-pub unopened_recovers : {D : Type 0} (g : Ghosts D) (disk later : D) (e : Ending)
+pub unopened_recovers : {D : Type 0} (g : Ghosts D) (disk later : D) (e : Ending) → (e ≢ NotOpened → LeavesAlone g disk later)
     → ((image : Image) → g.left_since later (g.moment disk) image → Reached KeepsStored (g.may_leave disk) image) → Recovers g disk later (unopened e)
-unopened_recovers g disk later e kept = record {
+unopened_recovers g disk later e alone kept = record {
   begins = λ opened. absurd (no_truth opened);
   returned = λ opened. absurd (no_truth opened);
   kept_up = λ opened. absurd (no_truth opened);
+  unopened = λ closed. alone;
+  found = λ opened. absurd (no_truth opened);
   any_moment = λ image left. inl (kept image left);
   tidy = λ at_first image left. (let was = kept image left in was.2.tidy (at_first was.0 was.1));
 }
@@ -163,13 +168,13 @@ left_same g only_now disk = record {
 -- a disk that wasn't touched
 pub untouched_recovers : {D : Type 0} (g : Ghosts D) (only_now : (disk : D) (image : Image) → g.left_since disk (g.moment disk) image → g.may_leave disk image) (disk : D) (e : Ending)
     → Recovers g disk disk (unopened e)
-untouched_recovers g only_now disk e = unopened_recovers g disk disk e (λ image left. (image, only_now disk image left, keeps_same image))
+untouched_recovers g only_now disk e = unopened_recovers g disk disk e (λ other. left_same g only_now disk) (λ image left. (image, only_now disk image left, keeps_same image))
 
 -- Memory ran out for the words.
 pub starved_runs : (told : Bool) (words : List (List ℕ)) (old : Edges) → IsRunOf told words (unopened Starved) old old
 starved_runs told words old = record {
   words_fit = fits (fault_of words_app words);
-  does = λ c s. inr (refl, record { no_items = refl; no_replies = refl; no_refused = refl; left = refl; clock = inr refl; ends = refl; quiet = λ not. refl });
+  does = λ c s. inr (refl, record { no_acts = refl; no_replies = refl; no_refused = refl; left = refl; clock = inr refl; ends = refl; quiet = λ not. refl });
   session = (refl, refl);
   cause = tt;
 }
@@ -201,35 +206,35 @@ pub unopened_done : (sure : Bool) (c : Command) (error : OpenError) (e : Ending)
     → ((file at : ℕ) → error ≡ open_errors.NotStore file at → IsNoStore file at old.held) → HasDone sure c (unopened e) old new
 unopened_done sure c open_errors.Fault e old new left moment (is, taken) write fault quiet near broken =
     subst (λ (k : Ending). HasDone sure c (unopened k) old new) (sym is) (record {
-      does = inr (refl, record { no_items = refl; no_replies = refl; no_refused = refl; left = left; clock = moment; ends = taken; quiet = λ not. absurd (not refl) });
+      does = inr (refl, record { no_acts = refl; no_replies = refl; no_refused = refl; left = left; clock = moment; ends = taken; quiet = λ not. absurd (not refl) });
       session = (refl, refl);
       cause = (fault refl, near);
       asked = λ e. let bad : ⊥ = cc in bad;
     })
 unopened_done sure c open_errors.Memory e old new left moment (is, taken) write fault quiet near broken =
     subst (λ (k : Ending). HasDone sure c (unopened k) old new) (sym is) (record {
-      does = inr (refl, record { no_items = refl; no_replies = refl; no_refused = refl; left = left; clock = inl moment; ends = taken; quiet = λ not. quiet (λ e. let bad : ⊥ = cc in bad) });
+      does = inr (refl, record { no_acts = refl; no_replies = refl; no_refused = refl; left = left; clock = inl moment; ends = taken; quiet = λ not. quiet (λ e. let bad : ⊥ = cc in bad) });
       session = (refl, refl);
       cause = tt;
       asked = λ e. let bad : ⊥ = cc in bad;
     })
 unopened_done sure c (open_errors.NotStore file at) e old new left moment (inl (is, taken)) write fault quiet near broken =
     subst (λ (k : Ending). HasDone sure c (unopened k) old new) (sym is) (record {
-      does = inr (refl, record { no_items = refl; no_replies = refl; no_refused = refl; left = left; clock = moment; ends = taken; quiet = λ not. quiet (λ e. let bad : ⊥ = cc in bad) });
+      does = inr (refl, record { no_acts = refl; no_replies = refl; no_refused = refl; left = left; clock = moment; ends = taken; quiet = λ not. quiet (λ e. let bad : ⊥ = cc in bad) });
       session = (refl, refl);
       cause = broken file at refl;
       asked = λ e. let bad : ⊥ = cc in bad;
     })
 unopened_done sure c (open_errors.NotStore file at) e old new left moment (inr (inl (is, taken))) write fault quiet near broken =
     subst (λ (k : Ending). HasDone sure c (unopened k) old new) (sym is) (record {
-      does = inr (refl, record { no_items = refl; no_replies = refl; no_refused = refl; left = left; clock = inl moment; ends = taken; quiet = λ not. quiet (λ e. let bad : ⊥ = cc in bad) });
+      does = inr (refl, record { no_acts = refl; no_replies = refl; no_refused = refl; left = left; clock = inl moment; ends = taken; quiet = λ not. quiet (λ e. let bad : ⊥ = cc in bad) });
       session = (refl, refl);
       cause = tt;
       asked = λ e. let bad : ⊥ = cc in bad;
     })
 unopened_done sure c (open_errors.NotStore file at) e old new left moment (inr (inr (is, taken))) write fault quiet near broken =
     subst (λ (k : Ending). HasDone sure c (unopened k) old new) (sym is) (record {
-      does = inr (refl, record { no_items = refl; no_replies = refl; no_refused = refl; left = left; clock = moment; ends = (file, at, broken file at refl, taken); quiet = λ not. quiet (λ e. let bad : ⊥ = cc in bad) });
+      does = inr (refl, record { no_acts = refl; no_replies = refl; no_refused = refl; left = left; clock = moment; ends = (file, at, broken file at refl, taken); quiet = λ not. quiet (λ e. let bad : ⊥ = cc in bad) });
       session = (refl, refl);
       cause = write is;
       asked = λ e. let bad : ⊥ = cc in bad;

@@ -1,6 +1,8 @@
 -- What a turn leaves, from what its steps did.
-use Rattle.std.proofs.Common.{◌≡◌, inl, inr, ℕ, ◌+◌, ◌<◌, ◌≤◌, List, [], ◌∷◌, ◌++◌, Option, Some, None, Err, Bool, true, false, ◌||◌, nat_le, length, take, refl, sym, ◌∙◌, ap, subst, arith, length-append, append_assoc, append-nil, if◌then◌else◌}
+use Rattle.std.proofs.Common.{◌≡◌, inl, inr, codes, ℕ, ◌+◌, ◌<◌, ◌≤◌, List, [], ◌∷◌, ◌++◌, Option, Some, None, Err, Bool, true, false, ◌||◌, nat_le, length, take, refl, sym, ◌∙◌, ap, subst, arith, length-append, append_assoc, append-nil, if◌then◌else◌}
 use Rattle.std.specs.List.{list_any}
+use Rattle.std.proofs.lemmas.Slice.Eq.{bytes_eq-Decides}
+use Rattle.disk_model.specs.declared.disk.Device.{Ghosts}
 use Rattle.std.specs.Io.KnownBytes.{Appends, Consumes}
 use Rattle.io_edges.specs.Devices.{first_moment}
 use Rattle.io_edges.specs.Lines.{lines, line_limit, taken_limit}
@@ -11,19 +13,22 @@ use Rattle.session_meaning.specs.declared.ending.Ending.{Ending}
 use Rattle.session_meaning.specs.declared.ending.Ending.TheVariants.{Answered, BadWords, NotOpened, NotStore, ReadFault, Refused, Spent, Starved, WriteFault}
 use Rattle.session_text.specs.declared.reply.Reply.{Reply}
 use Rattle.session_text.specs.declared.refusal.Refusal.TheVariants as refusal
-use Rattle.session_text.specs.declared.reply.Reply.TheVariants as reply
-use Rattle.session_text.specs.Items.{Item}
-use Rattle.session_text.specs.Requests.{line_of, plain}
+use Rattle.session_text.specs.Requests.{is_reopen, line_of, plain}
 use Rattle.session_text.specs.Replies.{reply_text}
 use Rattle.session_meaning.specs.Session.{Ends, IsAllEnded, IsAllRead, IsCutOff, end_of, is_for_memory, is_refusal, reply_texts}
-use Rattle.session_meaning.specs.Asked.{AsksNext, after_moment}
-use Rattle.session_meaning.specs.Progress.{HasAnsweredOne, HasAnsweredOver, Progress}
-use Rattle.session_meaning.proofs.SessionLaws.{one_refused, over_begins, over_one, progress_begins, progress_empty, progress_line, reply_texts-push}
-use Rattle.store_state.specs.Meaning.{Meaning}
+use Rattle.session_meaning.specs.Act.{Act, ComesTo}
+use Rattle.session_meaning.specs.Act.Act.{Ask, Unread}
+use Rattle.session_meaning.specs.Asked.{ComesToNext, after_moment}
+use Rattle.session_meaning.specs.Over.{AreDoneOver, IsDoneOver}
+use Rattle.session_meaning.specs.Progress.{Progress}
+use Rattle.session_meaning.proofs.SessionLaws.{one_refused, progress_begins, progress_empty, progress_line, reply_texts-push}
+use Rattle.store_core.specs.Port.{port_of}
+use Rattle.store_reopen.specs.declared.store.Store.{Store}
+use Rattle.store_reopen.specs.declared.store.Store.TheVariants.{Closed, Open}
 use Rattle.traceql_types.specs.Makers.{Makes, RefusesOnly}
 use Rattle.traceql_types.proofs.Calls.{refuses-none}
 use Rattle.trace_shell.specs.declared.session.Tally.{Tally}
-use Rattle.trace_shell.specs.Turn.{Came, HasGiven, IsAt, Turned, ending_of, tally_with}
+use Rattle.trace_shell.specs.Turn.{Came, HasGiven, IsAt, Turned, ending_of, refused_long, tally_with}
 
 -- Bytes taken in two steps.
 pub took_more : (text : List ℕ) (left new : Option (List ℕ)) (a b c : ℕ) → TakesBytes (Some text) left a b → TakesBytes left new b c → TakesBytes (Some text) new a c
@@ -95,22 +100,22 @@ seen_of p now replies reply next h step = step ∙ ap (λ b. b || p reply) h ∙
 
 -- A line was answered, and its reply given.
 pub answered_at : (told : Option (List ℕ)) (text before : List ℕ) (left_old left taken_old taken tell_old to_tell : Option (List ℕ)) (reader_old reader : Reader) (tally_old tally : Tally)
-    (line : List ℕ) (item : Item) (reply : Reply) (outcome : Option Ending) (items : List Item) (replies : List Reply) (blamed more : List (List ℕ))
-    (at : IsAt told text before left_old taken_old tell_old reader_old tally_old items replies blamed) →
-    IsNextLine at.rest line (IsToRead reader left) → 0 < length line → AsksNext tell_old line more item → to_tell ≡ after_moment tell_old →
+    (line : List ℕ) (act : Act) (reply : Reply) (outcome : Option Ending) (acts : List Act) (replies : List Reply) (blamed more : List (List ℕ))
+    (at : IsAt told text before left_old taken_old tell_old reader_old tally_old acts replies blamed) →
+    IsNextLine at.rest line (IsToRead reader left) → 0 < length line → ComesToNext tell_old line more act → to_tell ≡ after_moment tell_old →
     TakesBytes left_old left reader_old.taken reader.taken → HasGiven taken_old taken tally_old tally reply outcome →
-    Turned told text before left taken to_tell reader tally (items ++ item ∷ []) (replies ++ reply ∷ []) (blamed ++ more) outcome
-answered_at told text before left_old left taken_old taken tell_old to_tell reader_old reader tally_old tally [] item reply outcome items replies blamed more at next some a later took given = absurd (omega arith)
-answered_at told text before left_old left taken_old taken tell_old to_tell reader_old reader tally_old tally (b ∷ bs) item reply outcome items replies blamed more at next some a later took given =
+    Turned told text before left taken to_tell reader tally (acts ++ act ∷ []) (replies ++ reply ∷ []) (blamed ++ more) outcome
+answered_at told text before left_old left taken_old taken tell_old to_tell reader_old reader tally_old tally [] act reply outcome acts replies blamed more at next some a later took given = absurd (omega arith)
+answered_at told text before left_old left taken_old taken tell_old to_tell reader_old reader tally_old tally (b ∷ bs) act reply outcome acts replies blamed more at next some a later took given =
     turned outcome given
   where
-    progress : Progress told text next.rest (blamed ++ more) (items ++ item ∷ []) to_tell
+    progress : Progress told text next.rest (blamed ++ more) (acts ++ act ∷ []) to_tell
     progress =
-        subst (λ (o : Option (List ℕ)). Progress told text next.rest (blamed ++ more) (items ++ item ∷ []) o) (sym later)
-        (progress_line told text at.rest next.past next.rest blamed more items tell_old b bs item at.progress next.parts next.first a)
+        subst (λ (o : Option (List ℕ)). Progress told text next.rest (blamed ++ more) (acts ++ act ∷ []) o) (sym later)
+        (progress_line told text at.rest next.past next.rest blamed more acts tell_old b bs act at.progress next.parts next.first a)
 
     turned : (o : Option Ending) → HasGiven taken_old taken tally_old tally reply o →
-        Turned told text before left taken to_tell reader tally (items ++ item ∷ []) (replies ++ reply ∷ []) (blamed ++ more) o
+        Turned told text before left taken to_tell reader tally (acts ++ act ∷ []) (replies ++ reply ∷ []) (blamed ++ more) o
     turned None g = record {
       rest = next.rest;
       to_read = next.after;
@@ -151,79 +156,79 @@ answered_at told text before left_old left taken_old taken tell_old to_tell read
 
 -- A line without bytes was passed over.
 pub passed_at : (told : Option (List ℕ)) (text before : List ℕ) (left_old left taken_old taken tell_old to_tell : Option (List ℕ)) (reader_old reader : Reader) (tally_old tally : Tally)
-    (items : List Item) (replies : List Reply) (blamed : List (List ℕ)) (at : IsAt told text before left_old taken_old tell_old reader_old tally_old items replies blamed) →
+    (acts : List Act) (replies : List Reply) (blamed : List (List ℕ)) (at : IsAt told text before left_old taken_old tell_old reader_old tally_old acts replies blamed) →
     IsNextLine at.rest [] (IsToRead reader left) → tally ≡ tally_old → taken ≡ taken_old → to_tell ≡ tell_old →
-    TakesBytes left_old left reader_old.taken reader.taken → IsAt told text before left taken to_tell reader tally items replies blamed
-passed_at told text before left_old left taken_old taken tell_old to_tell reader_old reader tally_old tally items replies blamed at next same_seen same_taken same_clock took = record {
+    TakesBytes left_old left reader_old.taken reader.taken → IsAt told text before left taken to_tell reader tally acts replies blamed
+passed_at told text before left_old left taken_old taken tell_old to_tell reader_old reader tally_old tally acts replies blamed at next same_seen same_taken same_clock took = record {
   rest = next.rest;
   to_read = next.after;
-  progress = subst (λ (o : Option (List ℕ)). Progress told text next.rest blamed items o) (sym same_clock)
-      (progress_empty told text at.rest next.past next.rest blamed items tell_old at.progress next.parts next.first);
+  progress = subst (λ (o : Option (List ℕ)). Progress told text next.rest blamed acts o) (sym same_clock)
+      (progress_empty told text at.rest next.past next.rest blamed acts tell_old at.progress next.parts next.first);
   written = same_taken ∙ at.written;
   refused = ap (λ s. s.refused) same_seen ∙ at.refused;
   starved = ap (λ s. s.starved) same_seen ∙ at.starved;
   took = took_more text left_old left 0 reader_old.taken reader.taken at.took took;
 }
 
--- ---- what was answered over a port
+-- ---- what was done over a store
 
--- What a turn does over a port: these were asked and answered so, and it leaves that.
-abbrev pub TurnsOver : {M Q : Type 0} → Makes M → Meaning Q → M → M → Q → Q → (left_old left taken_old taken tell_old to_tell : Option (List ℕ)) → (reader_old reader : Reader) → (tally_old tally : Tally)
+-- What a turn does over a store: these were done and answered so, and it leaves that.
+abbrev pub TurnsOver : {M D : Type 0} → Makes M → Ghosts D → M → M → Store D → Store D → (left_old left taken_old taken tell_old to_tell : Option (List ℕ)) → (reader_old reader : Reader) → (tally_old tally : Tally)
     → Option Ending → Type 0
-TurnsOver makes meaning a b port_old port left_old left taken_old taken tell_old to_tell reader_old reader tally_old tally outcome =
-    (more : List (List ℕ)) × RefusesOnly makes a b more × (asked : List Item) × (given : List Reply) × HasAnsweredOver meaning port_old asked given port
-    × ((told : Option (List ℕ)) (text before : List ℕ) (items : List Item) (replies : List Reply) (blamed : List (List ℕ))
-    → IsAt told text before left_old taken_old tell_old reader_old tally_old items replies blamed
-    → Turned told text before left taken to_tell reader tally (items ++ asked) (replies ++ given) (blamed ++ more) outcome)
+TurnsOver makes g a b store_old store left_old left taken_old taken tell_old to_tell reader_old reader tally_old tally outcome =
+    (more : List (List ℕ)) × RefusesOnly makes a b more × (done : List Act) × (given : List Reply) × AreDoneOver g store_old done given store
+    × ((told : Option (List ℕ)) (text before : List ℕ) (acts : List Act) (replies : List Reply) (blamed : List (List ℕ))
+    → IsAt told text before left_old taken_old tell_old reader_old tally_old acts replies blamed
+    → Turned told text before left taken to_tell reader tally (acts ++ done) (replies ++ given) (blamed ++ more) outcome)
 
 -- Where nothing is asked, nothing is answered, and no text more is refused.
 unasked : (told : Option (List ℕ)) (text before : List ℕ) (left taken to_tell : Option (List ℕ)) (reader : Reader) (tally : Tally) (outcome : Option Ending)
-    (items : List Item) (replies : List Reply) (blamed : List (List ℕ)) → Turned told text before left taken to_tell reader tally items replies blamed outcome
-    → Turned told text before left taken to_tell reader tally (items ++ []) (replies ++ []) (blamed ++ []) outcome
-unasked told text before left taken to_tell reader tally outcome items replies blamed t =
-    subst (λ (is : List Item). Turned told text before left taken to_tell reader tally is (replies ++ []) (blamed ++ []) outcome) (sym (append-nil items))
-    (subst (λ (rs : List Reply). Turned told text before left taken to_tell reader tally items rs (blamed ++ []) outcome) (sym (append-nil replies))
-    (subst (λ (ts : List (List ℕ)). Turned told text before left taken to_tell reader tally items replies ts outcome) (sym (append-nil blamed)) t))
+    (acts : List Act) (replies : List Reply) (blamed : List (List ℕ)) → Turned told text before left taken to_tell reader tally acts replies blamed outcome
+    → Turned told text before left taken to_tell reader tally (acts ++ []) (replies ++ []) (blamed ++ []) outcome
+unasked told text before left taken to_tell reader tally outcome acts replies blamed t =
+    subst (λ (is : List Act). Turned told text before left taken to_tell reader tally is (replies ++ []) (blamed ++ []) outcome) (sym (append-nil acts))
+    (subst (λ (rs : List Reply). Turned told text before left taken to_tell reader tally acts rs (blamed ++ []) outcome) (sym (append-nil replies))
+    (subst (λ (ts : List (List ℕ)). Turned told text before left taken to_tell reader tally acts replies ts outcome) (sym (append-nil blamed)) t))
 
 -- A turn in which nothing is asked.
-pub turns_idle : {M Q : Type 0} (makes : Makes M) (meaning : Meaning Q) (a : M) (port : Q) (left_old left taken_old taken tell_old to_tell : Option (List ℕ)) (reader_old reader : Reader) (tally_old tally : Tally)
-    (outcome : Option Ending) → ((told : Option (List ℕ)) (text before : List ℕ) (items : List Item) (replies : List Reply) (blamed : List (List ℕ))
-    → IsAt told text before left_old taken_old tell_old reader_old tally_old items replies blamed → Turned told text before left taken to_tell reader tally items replies blamed outcome)
-    → TurnsOver makes meaning a a port port left_old left taken_old taken tell_old to_tell reader_old reader tally_old tally outcome
-turns_idle makes meaning a port left_old left taken_old taken tell_old to_tell reader_old reader tally_old tally outcome turned = (
+pub turns_idle : {M D : Type 0} (makes : Makes M) (g : Ghosts D) (a : M) (store : Store D) (left_old left taken_old taken tell_old to_tell : Option (List ℕ)) (reader_old reader : Reader) (tally_old tally : Tally)
+    (outcome : Option Ending) → ((told : Option (List ℕ)) (text before : List ℕ) (acts : List Act) (replies : List Reply) (blamed : List (List ℕ))
+    → IsAt told text before left_old taken_old tell_old reader_old tally_old acts replies blamed → Turned told text before left taken to_tell reader tally acts replies blamed outcome)
+    → TurnsOver makes g a a store store left_old left taken_old taken tell_old to_tell reader_old reader tally_old tally outcome
+turns_idle makes g a store left_old left taken_old taken tell_old to_tell reader_old reader tally_old tally outcome turned = (
   [],
   refuses-none makes a a a,
   [],
   [],
-  over_begins meaning port,
-  λ told text before items replies blamed at. unasked told text before left taken to_tell reader tally outcome items replies blamed (turned told text before items replies blamed at),
+  (refl, refl),
+  λ told text before acts replies blamed at. unasked told text before left taken to_tell reader tally outcome acts replies blamed (turned told text before acts replies blamed at),
 )
 
 -- A whole line was read, and answered where it has bytes.
-pub whole_at : {M Q : Type 0} (makes : Makes M) (meaning : Meaning Q) (a b : M) (port_old port : Q) (left_old left taken_old taken tell_old to_tell : Option (List ℕ)) (reader_old reader : Reader) (tally_old tally : Tally)
+pub whole_at : {M D : Type 0} (makes : Makes M) (g : Ghosts D) (a b : M) (store_old store : Store D) (left_old left taken_old taken tell_old to_tell : Option (List ℕ)) (reader_old reader : Reader) (tally_old tally : Tally)
     (line : List ℕ) (outcome : Option Ending) → ((rest : List ℕ) → IsToRead reader_old left_old rest → IsNextLine rest line (IsToRead reader left)) →
     TakesBytes left_old left reader_old.taken reader.taken →
-    (line ≡ [] → (outcome ≡ None) × (port ≡ port_old) × (tally ≡ tally_old) × (taken ≡ taken_old) × (to_tell ≡ tell_old) × (b ≡ a)) →
-    (0 < length line → (more : List (List ℕ)) × RefusesOnly makes a b more × (item : Item) × (reply : Reply) × HasAnsweredOne meaning port_old item reply port
-    × AsksNext tell_old line more item × (to_tell ≡ after_moment tell_old) × HasGiven taken_old taken tally_old tally reply outcome) →
-    TurnsOver makes meaning a b port_old port left_old left taken_old taken tell_old to_tell reader_old reader tally_old tally outcome
-whole_at {M} {Q} makes meaning a b port_old port left_old left taken_old taken tell_old to_tell reader_old reader tally_old tally [] outcome next took empty answered =
+    (line ≡ [] → (outcome ≡ None) × (store ≡ store_old) × (tally ≡ tally_old) × (taken ≡ taken_old) × (to_tell ≡ tell_old) × (b ≡ a)) →
+    (0 < length line → (more : List (List ℕ)) × RefusesOnly makes a b more × (act : Act) × (reply : Reply) × IsDoneOver g act store_old reply store
+    × ComesToNext tell_old line more act × (to_tell ≡ after_moment tell_old) × HasGiven taken_old taken tally_old tally reply outcome) →
+    TurnsOver makes g a b store_old store left_old left taken_old taken tell_old to_tell reader_old reader tally_old tally outcome
+whole_at {M} {D} makes g a b store_old store left_old left taken_old taken tell_old to_tell reader_old reader tally_old tally [] outcome next took empty answered =
     let same = empty refl in
-    subst (λ (x : M). TurnsOver makes meaning a x port_old port left_old left taken_old taken tell_old to_tell reader_old reader tally_old tally outcome) (sym same.5)
-    (subst (λ (x : Q). TurnsOver makes meaning a a port_old x left_old left taken_old taken tell_old to_tell reader_old reader tally_old tally outcome) (sym same.1)
-    (turns_idle makes meaning a port_old left_old left taken_old taken tell_old to_tell reader_old reader tally_old tally outcome
-    (λ told text before items replies blamed at.
-    subst (λ (o : Option Ending). Turned told text before left taken to_tell reader tally items replies blamed o) (sym same.0)
-    (passed_at told text before left_old left taken_old taken tell_old to_tell reader_old reader tally_old tally items replies blamed at (next at.rest at.to_read) same.2 same.3 same.4 took))))
-whole_at makes meaning a b port_old port left_old left taken_old taken tell_old to_tell reader_old reader tally_old tally (c ∷ cs) outcome next took empty answered =
+    subst (λ (x : M). TurnsOver makes g a x store_old store left_old left taken_old taken tell_old to_tell reader_old reader tally_old tally outcome) (sym same.5)
+    (subst (λ (x : Store D). TurnsOver makes g a a store_old x left_old left taken_old taken tell_old to_tell reader_old reader tally_old tally outcome) (sym same.1)
+    (turns_idle makes g a store_old left_old left taken_old taken tell_old to_tell reader_old reader tally_old tally outcome
+    (λ told text before acts replies blamed at.
+    subst (λ (o : Option Ending). Turned told text before left taken to_tell reader tally acts replies blamed o) (sym same.0)
+    (passed_at told text before left_old left taken_old taken tell_old to_tell reader_old reader tally_old tally acts replies blamed at (next at.rest at.to_read) same.2 same.3 same.4 took))))
+whole_at makes g a b store_old store left_old left taken_old taken tell_old to_tell reader_old reader tally_old tally (c ∷ cs) outcome next took empty answered =
     let one = answered (omega arith) in (
       one.0,
       one.1,
       one.2 ∷ [],
       one.3 ∷ [],
-      over_one meaning port_old port one.2 one.3 one.4,
-      λ told text before items replies blamed at.
-          answered_at told text before left_old left taken_old taken tell_old to_tell reader_old reader tally_old tally (c ∷ cs) one.2 one.3 outcome items replies blamed one.0 at
+      (store, one.4, (refl, refl)),
+      λ told text before acts replies blamed at.
+          answered_at told text before left_old left taken_old taken tell_old to_tell reader_old reader tally_old tally (c ∷ cs) one.2 one.3 outcome acts replies blamed one.0 at
           (next at.rest at.to_read) (omega arith) one.5 one.6 took one.7,
     )
 
@@ -235,40 +240,61 @@ too_long_line moment line long = rw (not_within (length line) long) refl
     not_within : (n : ℕ) → line_limit < n → nat_le n line_limit ≡ false
     not_within n h = grind arith
 
--- It is refused, whatever the moment.
-too_long_asks : (tell : Option (List ℕ)) (line : List ℕ) → line_limit < length line → AsksNext tell line [] (Err (refusal.TooLong (length line)))
-too_long_asks None line long = (0, λ moments e. absurd (let bad : None ≡ Some moments = e in cc), rw (too_long_line 0 line long) (inl refl, refl))
-too_long_asks (Some told) line long =
-    (first_moment told, λ moments e. ap first_moment (same told moments e), rw (too_long_line (first_moment told) line long) (inl refl, refl))
+-- and it isn't the word by which a store is opened again
+too_long_word : (line : List ℕ) → line_limit < length line → is_reopen line ≡ false
+too_long_word line long = go (is_reopen line) refl
+  where
+    go : (b : Bool) → is_reopen line ≡ b → b ≡ false
+    go true is =
+        let same : line ≡ codes "reopen" = (bytes_eq-Decides line (codes "reopen")).0 is in
+        let size : length line ≡ 6 = ap length same in absurd (omega (arith, long, size))
+    go false is = refl
+
+-- It is refused, whatever the moment; or it isn't read in a closed store.
+abbrev long_act : {D : Type 0} → Store D → ℕ → Act
+long_act (Open core) size = Ask (Err (refusal.TooLong size))
+long_act (Closed disk) size = Unread
+
+too_long_comes : {D : Type 0} (store : Store D) (moment : ℕ) (line : List ℕ) → line_limit < length line → ComesTo moment line [] (long_act store (length line))
+too_long_comes (Open core) moment line long = (too_long_word line long, rw (too_long_line moment line long) (inl refl, refl))
+too_long_comes (Closed disk) moment line long = (too_long_word line long, refl)
+
+too_long_next : {D : Type 0} (store : Store D) (tell : Option (List ℕ)) (line : List ℕ) → line_limit < length line → ComesToNext tell line [] (long_act store (length line))
+too_long_next store None line long = (0, λ moments e. absurd (let bad : None ≡ Some moments = e in cc), too_long_comes store 0 line long)
+too_long_next store (Some told) line long = (first_moment told, λ moments e. ap first_moment (same told moments e), too_long_comes store (first_moment told) line long)
   where
     same : (a b : List ℕ) → Some a ≡ Some b → a ≡ b
     same a b e = cc
 
+too_long_done : {D : Type 0} (g : Ghosts D) (store : Store D) (size : ℕ) → IsDoneOver g (long_act store size) store (refused_long store size) store
+too_long_done g (Open core) size = (core, refl, one_refused (port_of g) core (refusal.TooLong size))
+too_long_done g (Closed disk) size = (refl, refl)
+
 -- A line of too many bytes was read, and refused.
-pub too_long_at : {M Q : Type 0} (makes : Makes M) (meaning : Meaning Q) (a : M) (port : Q) (left_old left taken_old taken tell_old to_tell : Option (List ℕ)) (reader_old reader : Reader) (tally_old tally : Tally)
+pub too_long_at : {M D : Type 0} (makes : Makes M) (g : Ghosts D) (a : M) (store : Store D) (left_old left taken_old taken tell_old to_tell : Option (List ℕ)) (reader_old reader : Reader) (tally_old tally : Tally)
     (size : ℕ) (outcome : Option Ending) → ((rest : List ℕ) → IsToRead reader_old left_old rest → (line : List ℕ) × IsNextLine rest line (IsToRead reader left) × (size ≡ length line)) →
     line_limit < size → to_tell ≡ after_moment tell_old →
-    TakesBytes left_old left reader_old.taken reader.taken → HasGiven taken_old taken tally_old tally (reply.Refused (refusal.TooLong size)) outcome →
-    TurnsOver makes meaning a a port port left_old left taken_old taken tell_old to_tell reader_old reader tally_old tally outcome
-too_long_at makes meaning a port left_old left taken_old taken tell_old to_tell reader_old reader tally_old tally size outcome next long later took given = (
+    TakesBytes left_old left reader_old.taken reader.taken → HasGiven taken_old taken tally_old tally (refused_long store size) outcome →
+    TurnsOver makes g a a store store left_old left taken_old taken tell_old to_tell reader_old reader tally_old tally outcome
+too_long_at makes g a store left_old left taken_old taken tell_old to_tell reader_old reader tally_old tally size outcome next long later took given = (
   [],
   refuses-none makes a a a,
-  Err (refusal.TooLong size) ∷ [],
-  reply.Refused (refusal.TooLong size) ∷ [],
-  over_one meaning port port (Err (refusal.TooLong size)) (reply.Refused (refusal.TooLong size)) (one_refused meaning port (refusal.TooLong size)),
-  λ told text before items replies blamed at.
+  long_act store size ∷ [],
+  refused_long store size ∷ [],
+  (store, too_long_done g store size, (refl, refl)),
+  λ told text before acts replies blamed at.
       let line = next at.rest at.to_read in
       let over : line_limit < length line.0 = omega (arith, line.2, long) in
-      answered_at told text before left_old left taken_old taken tell_old to_tell reader_old reader tally_old tally line.0 (Err (refusal.TooLong size)) (reply.Refused (refusal.TooLong size)) outcome
-      items replies blamed [] at line.1 (omega (arith, over))
-      (subst (λ (n : ℕ). AsksNext tell_old line.0 [] (Err (refusal.TooLong n))) (sym line.2) (too_long_asks tell_old line.0 over)) later took given,
+      answered_at told text before left_old left taken_old taken tell_old to_tell reader_old reader tally_old tally line.0 (long_act store size) (refused_long store size) outcome
+      acts replies blamed [] at line.1 (omega (arith, over))
+      (subst (λ (n : ℕ). ComesToNext tell_old line.0 [] (long_act store n)) (sym line.2) (too_long_next store tell_old line.0 over)) later took given,
 )
 
 -- The lines that weren't answered are those of what is to be read.
 stops : (told : Option (List ℕ)) (text before : List ℕ) (left taken to_tell : Option (List ℕ)) (reader : Reader) (tally : Tally) (ending : Ending)
-    (new : Option (List ℕ)) (items : List Item) (replies : List Reply) (blamed : List (List ℕ)) (at : IsAt told text before left taken to_tell reader tally items replies blamed)
-    → Ends ending text (lines at.rest) new before replies taken → Came told text before new taken to_tell ending items replies blamed
-stops told text before left taken to_tell reader tally ending new items replies blamed at ends = record {
+    (new : Option (List ℕ)) (acts : List Act) (replies : List Reply) (blamed : List (List ℕ)) (at : IsAt told text before left taken to_tell reader tally acts replies blamed)
+    → Ends ending text (lines at.rest) new before replies taken → Came told text before new taken to_tell ending acts replies blamed
+stops told text before left taken to_tell reader tally ending new acts replies blamed at ends = record {
   answered = at.progress.answered;
   later = lines at.rest;
   lines_are = at.progress.lines_are;
@@ -301,15 +327,15 @@ nothing_left reader left h = h.told ∙ ap Some (last_empty h.held h.rest h.text
 
 -- All was read.
 pub ended_at : (told : Option (List ℕ)) (text before : List ℕ) (left_old left taken to_tell : Option (List ℕ)) (reader_old reader : Reader) (tally : Tally)
-    (items : List Item) (replies : List Reply) (blamed : List (List ℕ)) (at : IsAt told text before left_old taken to_tell reader_old tally items replies blamed) →
+    (acts : List Act) (replies : List Reply) (blamed : List (List ℕ)) (at : IsAt told text before left_old taken to_tell reader_old tally acts replies blamed) →
     (at.rest ≡ []) × IsToRead reader left [] → reader.taken < taken_limit →
-    TakesBytes left_old left reader_old.taken reader.taken → Came told text before left taken to_tell (ending_of tally) items replies blamed
-ended_at told text before left_old left taken to_tell reader_old reader tally items replies blamed at (none, to_read) fewer took =
+    TakesBytes left_old left reader_old.taken reader.taken → Came told text before left taken to_tell (ending_of tally) acts replies blamed
+ended_at told text before left_old left taken to_tell reader_old reader tally acts replies blamed at (none, to_read) fewer took =
     let read = took_more text left_old left 0 reader_old.taken reader.taken at.took took in
     let no_more : left ≡ Some [] = nothing_left reader left to_read in
     let size : length text ≡ reader.taken = taken_all text left reader.taken read no_more in
     let all : IsAllRead text (lines at.rest) before replies taken = (ap lines none, subst (λ n. n < taken_limit) (sym size) fewer, at.written) in
-    stops told text before left_old taken to_tell reader_old tally (ending_of tally) left items replies blamed at
+    stops told text before left_old taken to_tell reader_old tally (ending_of tally) left acts replies blamed at
     (subst (λ e. Ends e text (lines at.rest) left before replies taken) (sym (same_ending tally replies at.refused at.starved))
     (ends_all_read text (lines at.rest) left before replies taken all))
 
@@ -328,10 +354,10 @@ all_ended text front reader left rest is to_read waiting = record {
 
 -- As many bytes were taken as are ever taken.
 pub spent_at : (told : Option (List ℕ)) (text before : List ℕ) (left_old left taken to_tell : Option (List ℕ)) (reader_old reader : Reader) (tally : Tally)
-    (items : List Item) (replies : List Reply) (blamed : List (List ℕ)) (at : IsAt told text before left_old taken to_tell reader_old tally items replies blamed) → reader.taken ≡ taken_limit →
-    TakesBytes left_old left reader_old.taken reader.taken → IsToRead reader left at.rest → HoldsNoFeed reader → Came told text before left taken to_tell Spent items replies blamed
-spent_at told text before left_old left taken to_tell reader_old reader tally items replies blamed at all took to_read waiting =
-    stops told text before left_old taken to_tell reader_old tally Spent left items replies blamed at (
+    (acts : List Act) (replies : List Reply) (blamed : List (List ℕ)) (at : IsAt told text before left_old taken to_tell reader_old tally acts replies blamed) → reader.taken ≡ taken_limit →
+    TakesBytes left_old left reader_old.taken reader.taken → IsToRead reader left at.rest → HoldsNoFeed reader → Came told text before left taken to_tell Spent acts replies blamed
+spent_at told text before left_old left taken to_tell reader_old reader tally acts replies blamed at all took to_read waiting =
+    stops told text before left_old taken to_tell reader_old tally Spent left acts replies blamed at (
       at.written,
       all_ended text at.progress.front reader left at.rest at.progress.text_is to_read waiting,
       subst (λ n. n ≤ length text) all (taken_within text left reader.taken (took_more text left_old left 0 reader_old.taken reader.taken at.took took)),
@@ -339,18 +365,18 @@ spent_at told text before left_old left taken to_tell reader_old reader tally it
 
 -- The source failed.
 pub failed_at : (told : Option (List ℕ)) (text before : List ℕ) (left_old left taken to_tell : Option (List ℕ)) (reader_old reader : Reader) (tally : Tally)
-    (items : List Item) (replies : List Reply) (blamed : List (List ℕ)) (at : IsAt told text before left_old taken to_tell reader_old tally items replies blamed)
-    → IsToRead reader left at.rest → HoldsNoFeed reader → Came told text before left taken to_tell ReadFault items replies blamed
-failed_at told text before left_old left taken to_tell reader_old reader tally items replies blamed at to_read waiting =
-    stops told text before left_old taken to_tell reader_old tally ReadFault left items replies blamed at
+    (acts : List Act) (replies : List Reply) (blamed : List (List ℕ)) (at : IsAt told text before left_old taken to_tell reader_old tally acts replies blamed)
+    → IsToRead reader left at.rest → HoldsNoFeed reader → Came told text before left taken to_tell ReadFault acts replies blamed
+failed_at told text before left_old left taken to_tell reader_old reader tally acts replies blamed at to_read waiting =
+    stops told text before left_old taken to_tell reader_old tally ReadFault left acts replies blamed at
     (at.written, all_ended text at.progress.front reader left at.rest at.progress.text_is to_read waiting)
 
 -- Memory ran out for a line.
 pub starved_at : (told : Option (List ℕ)) (text before : List ℕ) (left_old left taken to_tell : Option (List ℕ)) (reader : Reader) (tally : Tally)
-    (items : List Item) (replies : List Reply) (blamed : List (List ℕ)) → IsAt told text before left_old taken to_tell reader tally items replies blamed
-    → Came told text before left taken to_tell Starved items replies blamed
-starved_at told text before left_old left taken to_tell reader tally items replies blamed at =
-    stops told text before left_old taken to_tell reader tally Starved left items replies blamed at (inr (inl at.written))
+    (acts : List Act) (replies : List Reply) (blamed : List (List ℕ)) → IsAt told text before left_old taken to_tell reader tally acts replies blamed
+    → Came told text before left taken to_tell Starved acts replies blamed
+starved_at told text before left_old left taken to_tell reader tally acts replies blamed at =
+    stops told text before left_old taken to_tell reader tally Starved left acts replies blamed at (inr (inl at.written))
 
 -- Bytes taken in two steps, wherever they came from.
 pub took_on : (start left new : Option (List ℕ)) (a b c : ℕ) → TakesBytes start left a b → TakesBytes left new b c → TakesBytes start new a c

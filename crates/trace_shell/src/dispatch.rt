@@ -12,7 +12,7 @@ ghost use Rattle.store_core.specs.Port.{port_of};
 ghost use Rattle.store_images.specs.Stored.{IsSoundImage};
 ghost use Rattle.store_model.specs.Holds.{Hold};
 ghost use Rattle.session_text.specs.declared.reply.Reply.{Reply};
-ghost use Rattle.session_text.specs.Items.{Item};
+ghost use Rattle.session_meaning.specs.Act.{Act};
 ghost use Rattle.session_meaning.specs.declared.ending.Ending.TheVariants.{NotOpened, ReadFault, Spent, WriteFault};
 ghost use Rattle.session_meaning.specs.Runs.{IsPastOpening, IsRunOf, Outcome, edges};
 ghost use Rattle.session_meaning.specs.Stops.{Recovers};
@@ -29,6 +29,7 @@ use session_text::{Refusal, Reply, write_reply};
 use span_types::{Failed, Memory};
 use std::alloc::Global;
 use store_core::{Core, OpenError};
+use store_reopen::Store;
 use traceql_types::PatternMaker;
 
 /// Does what the words say, and tells how it ended. The disk is handed back.
@@ -104,50 +105,65 @@ fn on_store<S: Source, K: Sink, D: Device, C: Clock, P: PatternMaker, G: Gate>(
     let moment = clock.now();
     match Core::open_store(alloc, disk, moment) {
         Ok(core) => {
-            let mut core = core;
-            let ending = do_asked(alloc, asked, source, sink, &mut core, clock, patterns, gate);
-            (ending, core.close())
+            let (ending, store) = do_asked(alloc, asked, source, sink, core, clock, patterns, gate);
+            (ending, store.into_disk())
         }
         Err((error, disk)) => (refuse_store(alloc, sink, error), disk),
     }
 }
 
-// Does what is asked over a core that was opened.
+// Does what is asked over a core that was opened. A session may close it; the others don't.
 fn do_asked<S: Source, K: Sink, D: Device, C: Clock, P: PatternMaker, G: Gate>(
     alloc: Global,
     asked: Asked,
     source: &mut S,
     sink: &mut K,
-    core: &mut Core<D>,
+    core: Core<D>,
     clock: &mut C,
     patterns: &mut P,
     gate: &G,
-) -> Ending
-    requires { (held : List Hold) × (port_of D.Device.own).holds core.old held }
-    ensures came { (items : List Item) × (replies : List Reply) × (blamed : List (List ℕ))
+) -> (Ending, Store<D>)
+    requires { (held : List Hold) × (port_of D.Device.own).holds core held }
+    ensures came { (acts : List Act) × (replies : List Reply) × (blamed : List (List ℕ))
         × RefusesOnly P.makes patterns.old patterns.new blamed
-        × CameOver (command_of asked) D.Device.own core.old core.new (S.left source.old)
+        × CameOver (command_of asked) D.Device.own core result.1 (S.left source.old)
         (K.taken sink.old) (C.moments clock.old)
-        (S.left source.new) (K.taken sink.new) (C.moments clock.new) result items replies blamed }
-    ensures write_fault { result ≡ WriteFault → Rose (K.faults sink.old) (K.faults sink.new) }
-    ensures read_fault { result ≡ ReadFault → Rose (S.faults source.old) (S.faults source.new) }
-    ensures spent { result ≡ Spent
+        (S.left source.new) (K.taken sink.new) (C.moments clock.new) result.0 acts replies blamed }
+    ensures write_fault { result.0 ≡ WriteFault → Rose (K.faults sink.old) (K.faults sink.new) }
+    ensures read_fault { result.0 ≡ ReadFault → Rose (S.faults source.old) (S.faults source.new) }
+    ensures spent { result.0 ≡ Spent
         → TakesBytes (S.left source.old) (S.left source.new) 0 taken_limit }
-    ensures endings { IsPastOpening result }
+    ensures endings { IsPastOpening result.0 }
     ensures alone { (line : List ℕ) → command_of asked ≡ Alone line → source.new ≡ source.old }
 {
     match asked {
-        Asked::Session => session(alloc, source, sink, core, clock, patterns, gate),
-        Asked::Ingest => ingest(alloc, source, sink, core, clock, gate),
-        Asked::Alone { line } => one_line(
+        Asked::Session => session(
             alloc,
+            source,
             sink,
-            core,
+            Store::Open(core),
             clock,
             patterns,
             gate,
-            line.as_str().as_bytes(),
         ),
+        Asked::Ingest => {
+            let mut core = core;
+            let ending = ingest(alloc, source, sink, &mut core, clock, gate);
+            (ending, Store::Open(core))
+        }
+        Asked::Alone { line } => {
+            let mut core = core;
+            let ending = one_line(
+                alloc,
+                sink,
+                &mut core,
+                clock,
+                patterns,
+                gate,
+                line.as_str().as_bytes(),
+            );
+            (ending, Store::Open(core))
+        }
     }
 }
 

@@ -1,30 +1,35 @@
-//! A session: the lines of a source are answered in order over a store's port, each reply written before the next line
-//! is read.
+//! A session: the lines of a source are answered in order over a store, each reply written before the next line is read.
+//! The line `reopen` closes the store and opens it again.
 
-ghost use Rattle.std.specs.Prelude.{false, ◌≡◌, ◌⊎◌, ◌<◌, ◌≤◌, ℕ, List, [], ◌∷◌, ◌++◌, Option, Some, None, IfSome, IfNone, length};
+ghost use Rattle.std.specs.Prelude.{false, ◌≡◌, ◌⊎◌, ◌<◌, ◌≤◌, ℕ, List, [], ◌∷◌, ◌++◌, Option, Some, None, Result, IfSome, IfNone, length};
 ghost use Rattle.span_types.specs.Faults.{Rose};
 ghost use Rattle.io_edges.specs.Lines.{taken_limit};
 ghost use Rattle.io_edges.specs.Reader.{TakesBytes, to_come};
+ghost use Rattle.store_core.specs.declared.error.OpenError.{OpenError};
 ghost use Rattle.store_model.specs.Holds.{Hold};
-ghost use Rattle.session_text.specs.declared.refusal.Refusal.TheVariants.{TooLong};
+ghost use Rattle.store_reopen.specs.Reopened.{Reopens, disk_of};
 ghost use Rattle.session_text.specs.declared.reply.Reply.{Reply};
-ghost use Rattle.session_text.specs.declared.reply.Reply.TheVariants.{Refused as IsRefused};
 ghost use Rattle.session_text.specs.Items.{Item};
 ghost use Rattle.session_text.specs.Requests.{AsksAt};
 ghost use Rattle.session_meaning.specs.declared.ending.Ending.TheVariants.{Answered, ReadFault, Refused, Spent, Starved, WriteFault};
-ghost use Rattle.session_meaning.specs.Asked.{AsksNext, after_moment};
-ghost use Rattle.session_meaning.specs.Progress.{HasAnsweredOne, HasAnsweredOver};
+ghost use Rattle.session_meaning.specs.Act.{Act, ComesTo};
+ghost use Rattle.session_meaning.specs.Asked.{AsksNext, ComesToNext, after_moment};
+ghost use Rattle.session_meaning.specs.Over.{AreDoneOver, IsDoneOver, reopened_reply};
+ghost use Rattle.session_meaning.specs.Progress.{HasAnsweredOne};
 ghost use Rattle.session_meaning.specs.Runs.{IsPastOpening};
 ghost use Rattle.session_meaning.specs.Session.{EndsAlone, is_for_memory, is_refusal};
 ghost use Rattle.traceql_types.specs.Makers.{RefusesOnly};
-ghost use Rattle.trace_shell.specs.Turn.{Came, HasGiven, IsAt, Turned, ending_of, tally_with};
+ghost use Rattle.trace_shell.specs.Turn.{Came, HasGiven, IsAt, IsHeld, Turned, ending_of, refused_long, tally_with};
 
 use client_run::answer_request;
+use disk_model::Device;
 use io_edges::{Clock, Gate, Line, LineError, LineReader, Sink, Source};
 use session_meaning::Ending;
-use session_text::{Refusal, Reply, read_request, write_reply};
+use session_text::{Refusal, Reply, is_reopen, read_request, write_reply};
 use span_types::{Failed, Memory};
 use std::alloc::Global;
+use store_core::OpenError;
+use store_reopen::Store;
 use store_state::{Port, Refusal as Cause};
 use traceql_types::PatternMaker;
 
@@ -96,46 +101,50 @@ fn is_for_memory(reply: &Reply) -> bool
     }
 }
 
-/// Answers the lines of the source in order over a store's port, and writes each reply before it reads the next line.
-/// The clock is asked once for each line that has bytes.
-pub(crate) fn session<S: Source, K: Sink, Q: Port, C: Clock, P: PatternMaker, G: Gate>(
+/// Answers the lines of the source in order over a store, and writes each reply before it reads the next line. The
+/// clock is asked once for each line that has bytes. The line `reopen` closes the store and opens it again; while it is
+/// closed no other line is read. The store is handed back, open or closed.
+pub(crate) fn session<S: Source, K: Sink, D: Device, C: Clock, P: PatternMaker, G: Gate>(
     alloc: Global,
     source: &mut S,
     sink: &mut K,
-    port: &mut Q,
+    store: Store<D>,
     clock: &mut C,
     patterns: &mut P,
     gate: &G,
-) -> Ending
-    requires { (held : List Hold) × Q.meaning.holds port.old held }
-    ensures ran { (items : List Item) × (replies : List Reply) × (blamed : List (List ℕ))
+) -> (Ending, Store<D>)
+    requires { IsHeld D.Device.own store }
+    ensures ran { (acts : List Act) × (replies : List Reply) × (blamed : List (List ℕ))
         × RefusesOnly P.makes patterns.old patterns.new blamed
-        × HasAnsweredOver Q.meaning port.old items replies port.new
+        × AreDoneOver D.Device.own store acts replies result.1
         × ((text before : List ℕ) → S.left source.old ≡ Some text → K.taken sink.old ≡ Some before
         → Came (C.moments clock.old) text before (S.left source.new) (K.taken sink.new)
-        (C.moments clock.new) result
-        items replies blamed) }
-    ensures write_fault { result ≡ WriteFault → Rose (K.faults sink.old) (K.faults sink.new) }
-    ensures read_fault { result ≡ ReadFault → Rose (S.faults source.old) (S.faults source.new) }
-    ensures spent { result ≡ Spent
+        (C.moments clock.new) result.0
+        acts replies blamed) }
+    ensures write_fault { result.0 ≡ WriteFault → Rose (K.faults sink.old) (K.faults sink.new) }
+    ensures read_fault { result.0 ≡ ReadFault → Rose (S.faults source.old) (S.faults source.new) }
+    ensures spent { result.0 ≡ Spent
         → TakesBytes (S.left source.old) (S.left source.new) 0 taken_limit }
-    ensures endings { IsPastOpening result }
+    ensures endings { IsPastOpening result.0 }
 {
     let mut reader = LineReader::new(alloc);
     let mut tally = Tally::new();
+    let mut store = store;
     'lines: loop {
-        if let Some(ending) = next_line(
+        let (ended, later) = next_line(
             alloc,
             &mut reader,
             source,
             &mut tally,
             sink,
-            port,
+            store,
             clock,
             patterns,
             gate,
-        ) {
-            return ending;
+        );
+        store = later;
+        if let Some(ending) = ended {
+            return (ending, store);
         }
     }
 }
@@ -172,107 +181,159 @@ pub(crate) fn one_line<K: Sink, Q: Port, C: Clock, P: PatternMaker, G: Gate>(
 }
 
 // Reads the next line, answers it and writes the reply. Gives how the session ends, where it does.
-fn next_line<S: Source, K: Sink, Q: Port, C: Clock, P: PatternMaker, G: Gate>(
+fn next_line<S: Source, K: Sink, D: Device, C: Clock, P: PatternMaker, G: Gate>(
     alloc: Global,
     reader: &mut LineReader,
     source: &mut S,
     tally: &mut Tally,
     sink: &mut K,
-    port: &mut Q,
+    store: Store<D>,
     clock: &mut C,
     patterns: &mut P,
     gate: &G,
-) -> Option<Ending>
-    requires { (held : List Hold) × Q.meaning.holds port.old held }
+) -> (Option<Ending>, Store<D>)
+    requires { IsHeld D.Device.own store }
     ensures turned { (more : List (List ℕ)) × RefusesOnly P.makes patterns.old patterns.new more
-        × (asked : List Item) × (given : List Reply)
-        × HasAnsweredOver Q.meaning port.old asked given port.new
-        × ((told : Option (List ℕ)) (text before : List ℕ) (items : List Item)
+        × (done : List Act) × (given : List Reply)
+        × AreDoneOver D.Device.own store done given result.1
+        × ((told : Option (List ℕ)) (text before : List ℕ) (acts : List Act)
         (replies : List Reply) (blamed : List (List ℕ))
         → IsAt told text before (S.left source.old) (K.taken sink.old)
         (C.moments clock.old) reader.old tally.old
-        items replies blamed
+        acts replies blamed
         → Turned told text before (S.left source.new) (K.taken sink.new)
         (C.moments clock.new) reader.new tally.new
-        (items ++ asked) (replies ++ given) (blamed ++ more) result) }
-    ensures nearer { IfNone result (to_come reader.new < to_come reader.old) }
+        (acts ++ done) (replies ++ given) (blamed ++ more) result.0) }
+    ensures held { IsHeld D.Device.own result.1 }
+    ensures nearer { IfNone result.0 (to_come reader.new < to_come reader.old) }
     ensures source_counted { S.faults source.old ≤ S.faults source.new }
     ensures sink_counted { K.faults sink.old ≤ K.faults sink.new }
-    ensures write_fault { IfSome result (λ ending. ending ≡ WriteFault
+    ensures write_fault { IfSome result.0 (λ ending. ending ≡ WriteFault
         → Rose (K.faults sink.old) (K.faults sink.new)) }
-    ensures read_fault { IfSome result (λ ending. ending ≡ ReadFault
+    ensures read_fault { IfSome result.0 (λ ending. ending ≡ ReadFault
         → Rose (S.faults source.old) (S.faults source.new)) }
     ensures took { TakesBytes (S.left source.old)
         (S.left source.new) reader.old.taken reader.new.taken }
-    ensures spent { IfSome result (λ ending. ending ≡ Spent → reader.new.taken ≡ taken_limit) }
-    ensures endings { IfSome result IsPastOpening }
+    ensures spent { IfSome result.0 (λ ending. ending ≡ Spent → reader.new.taken ≡ taken_limit) }
+    ensures endings { IfSome result.0 IsPastOpening }
 {
     let line = match reader.next(source) {
         Ok(line) => line,
-        Err(LineError::Fault) => return Some(Ending::ReadFault),
-        Err(LineError::Memory) => return Some(Ending::Starved),
+        Err(LineError::Fault) => return (Some(Ending::ReadFault), store),
+        Err(LineError::Memory) => return (Some(Ending::Starved), store),
     };
     match line {
         Line::Whole(bytes) => answer_line(
             alloc,
             tally,
             sink,
-            port,
+            store,
             clock,
             patterns,
             gate,
             bytes.as_slice(),
         ),
-        Line::TooLong { length } => refuse_line(alloc, tally, sink, clock, length),
-        Line::End => Some(tally.ending()),
-        Line::Spent { .. } => Some(Ending::Spent),
+        Line::TooLong { length } => {
+            let ended = refuse_line(alloc, tally, sink, &store, clock, length);
+            (ended, store)
+        }
+        Line::End => (Some(tally.ending()), store),
+        Line::Spent { .. } => (Some(Ending::Spent), store),
     }
 }
 
 // Answers a line and writes the reply. A line without bytes gets none, and the clock isn't asked for it.
-fn answer_line<K: Sink, Q: Port, C: Clock, P: PatternMaker, G: Gate>(
+fn answer_line<K: Sink, D: Device, C: Clock, P: PatternMaker, G: Gate>(
     alloc: Global,
     tally: &mut Tally,
     sink: &mut K,
-    port: &mut Q,
+    store: Store<D>,
     clock: &mut C,
     patterns: &mut P,
     gate: &G,
     line: &[u8],
-) -> Option<Ending>
-    requires { (held : List Hold) × Q.meaning.holds port.old held }
+) -> (Option<Ending>, Store<D>)
+    requires { IsHeld D.Device.own store }
     ensures empty { line.now ≡ []
-        → (result ≡ None) × (port.new ≡ port.old) × (tally.new ≡ tally.old)
+        → (result.0 ≡ None) × (result.1 ≡ store) × (tally.new ≡ tally.old)
         × (sink.new ≡ sink.old) × (clock.new ≡ clock.old) × (patterns.new ≡ patterns.old) }
     ensures answered { 0 < length line.now
         → (more : List (List ℕ)) × RefusesOnly P.makes patterns.old patterns.new more
-        × (item : Item) × (reply : Reply) × HasAnsweredOne Q.meaning port.old item reply port.new
-        × AsksNext (C.moments clock.old) line.now more item
+        × (act : Act) × (reply : Reply) × IsDoneOver D.Device.own act store reply result.1
+        × ComesToNext (C.moments clock.old) line.now more act
         × (C.moments clock.new ≡ after_moment (C.moments clock.old))
-        × HasGiven (K.taken sink.old) (K.taken sink.new) tally.old tally.new reply result }
+        × HasGiven (K.taken sink.old) (K.taken sink.new) tally.old tally.new reply result.0 }
+    ensures held { IsHeld D.Device.own result.1 }
     ensures sink_counted { K.faults sink.old ≤ K.faults sink.new }
-    ensures write_fault { IfSome result (λ ending. ending ≡ WriteFault
+    ensures write_fault { IfSome result.0 (λ ending. ending ≡ WriteFault
         → Rose (K.faults sink.old) (K.faults sink.new)) }
-    ensures endings { IfSome result (λ ending. (ending ≡ WriteFault) ⊎ (ending ≡ Starved)) }
+    ensures endings { IfSome result.0 (λ ending. (ending ≡ WriteFault) ⊎ (ending ≡ Starved)) }
 {
     if line.is_empty() {
-        return None;
+        return (None, store);
     }
     let moment = clock.now();
-    let reply = answer(alloc, port, patterns, gate, line, moment);
-    write(alloc, tally, sink, &reply)
+    let (reply, store) = act_on(alloc, store, patterns, gate, line, moment);
+    let ended = write(alloc, tally, sink, &reply);
+    (ended, store)
 }
 
-// Refuses a line of so many bytes, which are too many, and writes the reply.
-fn refuse_line<K: Sink, C: Clock>(
+// Does what a line says that was read at this moment, in nanoseconds.
+fn act_on<D: Device, P: PatternMaker, G: Gate>(
+    alloc: Global,
+    store: Store<D>,
+    patterns: &mut P,
+    gate: &G,
+    line: &[u8],
+    moment: u64,
+) -> (Reply, Store<D>)
+    requires { IsHeld D.Device.own store }
+    ensures done { (more : List (List ℕ)) × RefusesOnly P.makes patterns.old patterns.new more
+        × (act : Act) × ComesTo moment line.now more act
+        × IsDoneOver D.Device.own act store result.0 result.1 }
+    ensures held { IsHeld D.Device.own result.1 }
+{
+    if is_reopen(line) {
+        return reopen(alloc, store, moment);
+    }
+    match store {
+        Store::Open(core) => {
+            let mut core = core;
+            let reply = answer(alloc, &mut core, patterns, gate, line, moment);
+            (reply, Store::Open(core))
+        }
+        Store::Closed(disk) => (Reply::Refused(Refusal::Closed), Store::Closed(disk)),
+    }
+}
+
+// Closes the store and opens it again.
+fn reopen<D: Device>(alloc: Global, store: Store<D>, moment: u64) -> (Reply, Store<D>)
+    ensures done { (again : Result ℕ OpenError) × (result.0 ≡ reopened_reply again)
+        × Reopens D.Device.own (disk_of store) moment result.1 again }
+    ensures held { IsHeld D.Device.own result.1 }
+{
+    let (store, again) = store.reopen(alloc, moment);
+    let reply = match again {
+        Ok(entries) => Reply::Reopened { entries },
+        Err(OpenError::Fault) => Reply::Refused(Refusal::DiskFault),
+        Err(OpenError::NotStore { file, at }) => Reply::Refused(Refusal::NotStore { file, at }),
+        Err(OpenError::Memory) => Reply::Refused(Refusal::Memory),
+    };
+    (reply, store)
+}
+
+// Refuses a line of so many bytes, which are too many, and writes the reply. In a closed store it isn't read, like any
+// other.
+fn refuse_line<K: Sink, D: Device, C: Clock>(
     alloc: Global,
     tally: &mut Tally,
     sink: &mut K,
+    store: &Store<D>,
     clock: &mut C,
     length: u64,
 ) -> Option<Ending>
     ensures given { HasGiven (K.taken sink.old) (K.taken sink.new) tally.old tally.new
-        (IsRefused (TooLong length)) result }
+        (refused_long store.now length) result }
     ensures clock { C.moments clock.new ≡ after_moment (C.moments clock.old) }
     ensures sink_counted { K.faults sink.old ≤ K.faults sink.new }
     ensures write_fault { IfSome result (λ ending. ending ≡ WriteFault
@@ -281,7 +342,10 @@ fn refuse_line<K: Sink, C: Clock>(
 {
     // A line that is refused unread takes a moment of the clock like any other.
     let _moment = clock.now();
-    let reply = Reply::Refused(Refusal::TooLong { length });
+    let reply = match store {
+        Store::Open(_) => Reply::Refused(Refusal::TooLong { length }),
+        Store::Closed(_) => Reply::Refused(Refusal::Closed),
+    };
     write(alloc, tally, sink, &reply)
 }
 

@@ -42,11 +42,12 @@ pub fn exit_code<D: Drop>(ended: Ended<D>) -> ExitCode
     ExitCode::from(status)
 }
 
-/// Does what the words of the command line say on the store of the disk: `session` answers each line of the source,
-/// `ingest` pushes each and keeps the store up, `trace ID` answers the one line `trace ID`, and `search QUERY` with
-/// its options the one line that these make. The store is opened at the clock's first moment, in nanoseconds, and a
-/// new one is made on a disk that has none; the clock is then asked once for each line that has bytes. The disk is
-/// handed back as the store left it. No right to wait is needed.
+/// Does what the words of the command line say on the store of the disk: `session` answers each line of the source, and
+/// at each line `reopen` closes the store and opens it again; `ingest` pushes each line and keeps the store up;
+/// `trace ID` answers the one line `trace ID`, and `search QUERY` with its options the one line that these make. The
+/// store is opened at the clock's first moment, in nanoseconds, and a new one is made on a disk that has none; the clock
+/// is then asked once for each line that has bytes. The disk is handed back as the store left it. No right to wait is
+/// needed.
 pub fn run_alone<
     R: Threads + Sync,
     S: Source,
@@ -75,7 +76,8 @@ pub fn run_alone<
         × (result.status ≡ status_of o.ending) }
     // Over a disk whose bytes are shown and are a store's: it was done from what they store on, queries tell of all
     // that was pushed, wherever it lies, and what is stored as the disk is handed back, or whenever the run is
-    // stopped, holds every push that was accepted by then. What upkeep was told to have done stands on the disk.
+    // stopped, holds every push that was accepted by then. Where the store is open at the end and writes, what upkeep was
+    // told to have done stands on the disk.
     ensures recovers { IsTrue (D.tells disk) → IsSoundImage (D.held disk)
         → (o : Outcome) × RefusesOnly P.makes patterns.old patterns.new o.refused
         × IsRunOf true (map string_bytes words.now) o
@@ -134,7 +136,8 @@ pub fn run<
         × (result.status ≡ status_of o.ending) }
     // Over a disk whose bytes are shown and are a store's: it was done from what they store on, queries tell of all
     // that was pushed, wherever it lies, and what is stored as the disk is handed back, or whenever the run is
-    // stopped, holds every push that was accepted by then. What upkeep was told to have done stands on the disk.
+    // stopped, holds every push that was accepted by then. Where the store is open at the end and writes, what upkeep was
+    // told to have done stands on the disk.
     ensures recovers { IsTrue (D.tells disk) → IsSoundImage (D.held disk)
         → (o : Outcome) × RefusesOnly P.makes patterns.old patterns.new o.refused
         × IsRunOf true (map string_bytes words.now) o

@@ -1,9 +1,10 @@
-use Rattle.headline.proofs.Telling.{session_tells}
+use Rattle.headline.proofs.Telling.{acts_tell_all}
+use Rattle.session_meaning.specs.Place.{opened_at}
 use Rattle.headline.proofs.Kept.{kept_throughout, some_history}
 use Rattle.headline.proofs.laws.the_headline.Goals as goal
 
 pub returns-clause-answers : goal.returns-clause-answers
-returns-clause-answers g c = λ words o old new run. session_tells o.items o.replies o.first o.last run.session
+returns-clause-answers g c = λ words o old new run. acts_tell_all o.acts o.replies (opened_at o.first) o.last run.session
 
 pub returns-clause-stored : goal.returns-clause-stored
 returns-clause-stored g c = some_history g.D.Device c.args.disk.now c.args.later.now

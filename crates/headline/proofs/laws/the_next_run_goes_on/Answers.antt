@@ -2,9 +2,9 @@ use Rattle.headline.proofs.Alike.{next_keeps, stopped_keeps}
 use Rattle.headline.proofs.laws.the_next_run_goes_on.Goals as goal
 
 pub returns-clause-after_its_end : goal.returns-clause-after_its_end
-returns-clause-after_its_end g c = λ items replies first last kept words o old new run recovers opened possible.
-    next_keeps g.D.Device c.args.begun.now c.args.left.now c.args.disk.now c.args.later.now items replies first last kept words o old new run recovers opened possible
+returns-clause-after_its_end g c = λ acts replies first last kept words o old new run recovers opened possible.
+    next_keeps g.D.Device c.args.begun.now c.args.left.now c.args.disk.now c.args.later.now acts replies first last kept words o old new run recovers opened possible
 
 pub returns-clause-after_a_crash : goal.returns-clause-after_a_crash
-returns-clause-after_a_crash g c = λ items replies first last kept words o old new run recovers opened at_first since.
-    stopped_keeps g.D.Device c.args.begun.now c.args.left.now c.args.disk.now c.args.later.now items replies first last kept words o old new run recovers opened at_first since
+returns-clause-after_a_crash g c = λ acts replies first last kept words o old new run recovers opened at_first since.
+    stopped_keeps g.D.Device c.args.begun.now c.args.left.now c.args.disk.now c.args.later.now acts replies first last kept words o old new run recovers opened at_first since

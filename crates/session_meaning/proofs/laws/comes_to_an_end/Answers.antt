@@ -6,4 +6,5 @@ pub returns-clause-ends : goal.returns-clause-ends
 returns-clause-ends c = λ told words command o old new spells run well. run_ends told words o old new run command spells well
 
 pub returns-clause-well : goal.returns-clause-well
-returns-clause-well c = λ words command o old new spells run well before taken none room. run_ends_well true words o old new run refl command spells well before taken none room
+returns-clause-well c = λ words command o old new spells run well before taken items are none room.
+    run_ends_well true words o old new run refl command spells well before taken items are none room
