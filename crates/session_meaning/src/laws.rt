@@ -491,7 +491,7 @@ pub fn the_next_run_begins_as_listed<D: Device>(begun: &D, left: &D, disk: &D, l
     // So does the next run on what an earlier one left that wrote to its end.
     ensures next_run { (one next : Outcome) → Recovers D.Device.own begun.now left.now one
         → Recovers D.Device.own disk.now later.now next → IsTrue one.opened → IsTrue next.opened
-        → one.last.is_open ≡ true → one.last.store.machine.read_only ≡ None
+        → one.last.is_listed ≡ true → one.last.store.machine.read_only ≡ None
         → D.may_leave left.now (D.held disk.now)
         → BeginsListed (D.held disk.now) one.last.store.machine.state next.moment
         next.first.machine.state }

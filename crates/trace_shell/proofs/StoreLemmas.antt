@@ -85,7 +85,7 @@ done_over {D} g (Alone line) core store old_left old_taken told left taken to_te
 
 -- where a session stands that was asked this of an open store
 abbrev pub asked_place : {D : Type 0} → Ghosts D → Core D → Machine → List Item → List Reply → Place
-asked_place g core m items replies = record { store = at_core g core m; is_open = true; unsure = unsure_after_all None items replies; pending = [] }
+asked_place g core m items replies = record { store = at_core g core m; is_open = true; is_listed = true; unsure = unsure_after_all None items replies; pending = [] }
 
 -- What a command other than a session came to over a core, by machines that go with it.
 pub record CameAsked {D : Type 0} (g : Ghosts D) (is_with : Core D → Machine → Type 0) (sure : Bool) (c : Command) (core : Core D) (store : Store D) (m : Machine)
@@ -123,7 +123,7 @@ module _ {D : Type 0} (g : Ghosts D) (is_with : Core D → Machine → Type 0) (
         over = over;
         machine = run.0;
         stands = run.1;
-        done = as_acts acts items replies (asked_place g later run.0 items replies) acts_are (session_asks sure items replies (at_core g core m) (at_core g later run.0) None [] run.2);
+        done = as_acts acts items replies (asked_place g later run.0 items replies) acts_are (session_asks sure items replies (at_core g core m) (at_core g later run.0) true None [] run.2);
         came = (items, acts_are, none, λ text before source. absurd (none_is_some text source));
       }
   asked_ingest (Some text) None told left taken to_tell e acts replies blamed (later, is, items, acts_are, over, none, by) =
@@ -135,7 +135,7 @@ module _ {D : Type 0} (g : Ghosts D) (is_with : Core D → Machine → Type 0) (
         over = over;
         machine = run.0;
         stands = run.1;
-        done = as_acts acts items replies (asked_place g later run.0 items replies) acts_are (session_asks sure items replies (at_core g core m) (at_core g later run.0) None [] run.2);
+        done = as_acts acts items replies (asked_place g later run.0 items replies) acts_are (session_asks sure items replies (at_core g core m) (at_core g later run.0) true None [] run.2);
         came = (items, acts_are, none, λ all before source sink. absurd (none_is_some before sink));
       }
   asked_ingest (Some text) (Some before) told left taken to_tell e acts replies blamed (later, is, items, acts_are, over, none, by) =
@@ -159,7 +159,7 @@ module _ {D : Type 0} (g : Ghosts D) (is_with : Core D → Machine → Type 0) (
         over = over;
         machine = run.0;
         stands = run.1;
-        done = as_acts acts items replies (asked_place g later run.0 items replies) acts_are (session_asks sure items replies (at_core g core m) (at_core g later run.0) None [] all);
+        done = as_acts acts items replies (asked_place g later run.0 items replies) acts_are (session_asks sure items replies (at_core g core m) (at_core g later run.0) true None [] all);
         came = (
           items,
           acts_are,
@@ -184,7 +184,7 @@ module _ {D : Type 0} (g : Ghosts D) (is_with : Core D → Machine → Type 0) (
         over = all;
         machine = run.0;
         stands = run.1;
-        done = as_acts acts items replies (asked_place g later run.0 items replies) acts_are (session_asks sure items replies (at_core g core m) (at_core g later run.0) None [] run.2);
+        done = as_acts acts items replies (asked_place g later run.0 items replies) acts_are (session_asks sure items replies (at_core g core m) (at_core g later run.0) true None [] run.2);
         came = (item, reply, acts_are, replies_are, own, asks, clock, ends);
       }
 
@@ -321,7 +321,7 @@ module _ {D : Type 0} (g : Ghosts D) (disk : D) (moment : ℕ) (core : Core D) (
         let stored = founded.stored told in record {
           begins = λ opened. record { stored = stored.0; once = opens.once; base_alone = opens.base_alone; begins = stored.1 };
           returned = λ opened. kept_at_end.keeps.now told_later;
-          kept_up = λ opened is_open writes. store_lists g store last kept_at_end.stands told_later is_open writes;
+          kept_up = λ opened is_listed writes. store_lists g store last kept_at_end.stands told_later is_listed writes;
           unopened = λ closed. let bad : true ≡ false = closed in cc;
           found = λ opened. found;
           any_moment = λ image left.
