@@ -113,11 +113,7 @@ fn plays<P: Port>(alloc: Global, port: &mut P, steps: &[Step]) -> Played
 }
 
 /// How a script goes in the store that a disk holds, none where it isn't opened, and the disk.
-pub(crate) fn played_on<D: Device>(
-    alloc: Global,
-    disk: D,
-    steps: &[Step],
-) -> (Option<Played>, D) {
+pub(crate) fn played_on<D: Device>(alloc: Global, disk: D, steps: &[Step]) -> (Option<Played>, D) {
     match Core::open_store(alloc, disk, 7) {
         Ok(core) => {
             let mut core = core;

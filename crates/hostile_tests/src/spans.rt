@@ -81,9 +81,7 @@ pub(crate) fn batch(alloc: Global, number: u8) -> Result<Batch, Memory> {
 
 // Whether this is the row of a push.
 fn is_of(row: &Row, number: u64) -> bool {
-    row.place.number == number
-        && row.place.position == 0
-        && u64::from(row.span.id.0[7]) == number
+    row.place.number == number && row.place.position == 0 && u64::from(row.span.id.0[7]) == number
 }
 
 /// Whether these are the rows of so many pushes, each once.

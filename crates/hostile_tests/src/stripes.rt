@@ -38,12 +38,7 @@ const SLOT_READS: usize = 4;
 static PAGES: [u64; 3] = [3, 2, 1];
 
 /// The page of a block in this file, of which the stripe has another length.
-fn page_of(
-    alloc: Global,
-    disk: &mut MemDisk,
-    page: u64,
-    length: u64,
-) -> Result<Bytes, Fail> {
+fn page_of(alloc: Global, disk: &mut MemDisk, page: u64, length: u64) -> Result<Bytes, Fail> {
     let mut bytes = [0; 4096];
     disk.read(3, page.saturating_mul(4096), &mut bytes)?;
     if page == 1 {

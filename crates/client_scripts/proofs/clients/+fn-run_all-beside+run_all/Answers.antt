@@ -29,4 +29,3 @@ returns-clause-ran g t c =
     c.args.scripts.items c.pop.new.self.items c.push.new.self.items c.beside-mine.result.1.1.items c.in-Some.last c.beside-mine.result.0.1
     c.two-ticket.ensures.first c.two-ticket.ensures.second c.in-Some.ensures.items c.in-Ok.ensures.items (omega (arith, c.requires.parts))
     c.beside-mine.ensures.second.0 c.beside-mine.ensures.first c.one.ensures
-

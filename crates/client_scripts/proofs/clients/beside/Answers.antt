@@ -10,10 +10,20 @@ join-requires-send-F g c κs within =
     let port = c.type_bounds.send-Q in let rt = c.type_bounds.sync-R in let gate = c.type_bounds.sync-G in
     param_send _ _ (recorded_send _ _ _ _ (struct_send _ (
       search (rt, sendable) depth 20,
-      (search (sendable, crosses) depth 20,
-      (search (shared.the_sync, port, sendable) depth 20,
-      (search (ticket.the_send, port, sendable) depth 20,
-      (search (script-send, sendable, crosses) depth 20,
-      (search sendable depth 20,
-      (search (gate, sendable) depth 20, tt))))))
+      (
+        search (sendable, crosses) depth 20,
+        (
+          search (shared.the_sync, port, sendable) depth 20,
+          (
+            search (ticket.the_send, port, sendable) depth 20,
+            (
+              search (script-send, sendable, crosses) depth 20,
+              (
+                search sendable depth 20,
+                (search (gate, sendable) depth 20, tt),
+              ),
+            ),
+          ),
+        ),
+      ),
     )))
