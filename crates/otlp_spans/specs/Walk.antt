@@ -3,7 +3,9 @@ use Rattle.std.specs.Prelude.{◌≡◌, ℕ, ◌+◌, min, List, IfErr, Option,
 use Rattle.std.specs.Option.{option_or}
 use Rattle.serde_json.specs.Data.{Data}
 use Rattle.serde_json.specs.Find.{as_str}
-use Rattle.otlp_spans.specs.Json.{◌>>=◌, list_of, or_empty}
+use Rattle.span_types.specs.declared.attrs.AttrValue.{AttrValue}
+use Rattle.otlp_spans.specs.Attributes.{value_of}
+use Rattle.otlp_spans.specs.Json.{◌>>=◌, list_of, not_null, or_empty}
 use Rattle.otlp_spans.specs.declared.errors.Stop.{Stop}
 use Rattle.otlp_spans.specs.declared.errors.Stop.TheVariants.{Wrong}
 use Rattle.otlp_spans.specs.declared.paths.Member.{Member}
@@ -34,6 +36,14 @@ text_from found = or_empty (found >>= as_str)
 -- the items of the list that was found as a member; none where it is absent
 abbrev pub items_from : Option Data → List Data
 items_from found = or_empty (found >>= list_of)
+
+-- what was found as a member, unless it is null
+abbrev pub unless_null : Option Data → Option Data
+unless_null found = found >>= not_null
+
+-- the value of an attribute that was found as a member, where it is kept
+abbrev pub kept_value : Option Data → Option AttrValue
+kept_value found = found >>= value_of
 
 -- the first wrong form in what was found as a member
 abbrev pub first_behind : Member → Form → Option Data → Option (List Step)

@@ -9,9 +9,8 @@ ghost use Rattle.span_types.specs.declared.attrs.Attr.{Attr};
 ghost use Rattle.span_types.specs.Promises.{has_key};
 ghost use Rattle.otlp_spans.specs.Attributes.{attr_of, attrs_in, firsts_behind, nothing, only, skipped_attrs, value_by, value_of};
 ghost use Rattle.otlp_spans.specs.Forms.{attribute_form, attributes_form, found as found_in};
-ghost use Rattle.otlp_spans.specs.Json.{◌>>=◌};
 ghost use Rattle.otlp_spans.specs.Keys.{HasKeysOf, are_first, value_named};
-ghost use Rattle.otlp_spans.specs.Walk.{Adds, StopsAt, first_behind};
+ghost use Rattle.otlp_spans.specs.Walk.{Adds, StopsAt, first_behind, kept_value};
 ghost use Rattle.otlp_spans.specs.declared.paths.Member.TheVariants as m;
 
 use crate::errors::Stop;
@@ -135,7 +134,7 @@ fn value_of(alloc: Global, value: Value) -> Result<Option<AttrValue>, Memory>
 
 /// An attribute's value that was found, where it is kept.
 fn value_from(alloc: Global, found: Option<Value>) -> Result<Option<AttrValue>, Memory>
-    ensures { IfOk result (λ v. v ≡ (option_map view found >>= value_of)) }
+    ensures { IfOk result (λ v. v ≡ kept_value (option_map view found)) }
 {
     match found {
         Some(value) => value_of(alloc, value),

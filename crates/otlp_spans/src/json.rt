@@ -7,9 +7,9 @@ ghost use Rattle.serde_json.specs.Find.{as_array, as_object, as_str, get_member}
 ghost use Rattle.serde_json.specs.View.{items_view, members_view, view};
 ghost use Rattle.otlp_spans.specs.Attributes.{text_in};
 ghost use Rattle.otlp_spans.specs.Forms.{Form, ListOf, NumberOrText, Text as AText, behind, first_in_field, first_in_items, first_wrong, found};
-ghost use Rattle.otlp_spans.specs.Json.{◌>>=◌, list_of, not_null};
+ghost use Rattle.otlp_spans.specs.Json.{list_of};
 ghost use Rattle.otlp_spans.specs.Members.{member_name};
-ghost use Rattle.otlp_spans.specs.Walk.{StopsAt, first_behind, items_from, text_from};
+ghost use Rattle.otlp_spans.specs.Walk.{StopsAt, first_behind, items_from, text_from, unless_null};
 ghost use Rattle.otlp_spans.specs.declared.errors.Stop.TheVariants.{Memory as NoMemory, Wrong};
 ghost use Rattle.otlp_spans.specs.declared.paths.Step.TheVariants.{Of};
 
@@ -80,7 +80,7 @@ pub(crate) fn into_text(value: Value) -> Option<Text>
 
 /// A value that isn't null.
 fn not_null(found: Option<Value>) -> Option<Value>
-    ensures { option_map view result ≡ (option_map view found >>= not_null) }
+    ensures { option_map view result ≡ unless_null (option_map view found) }
 {
     let value = found?;
     if value.is_null() { None } else { Some(value) }
