@@ -144,7 +144,7 @@ static FIELDS: [Put; 26] = [
     // a kind in the third stripe, and one in the last one, which has 17 bytes, 24 for the ids and five up to the kind
     (THIRD + 7442, &[6]),
     (LAST + 46, &[6]),
-    // the first page of the index: the last of the 16 bytes behind its entries
+    // the first page of the index: the last of the 16 bytes after its entries
     (INDEX - 1, &[1]),
     // the second page: the first byte of an id and its last one, a first row, a number of rows, the fill
     (INDEX, &[2]),

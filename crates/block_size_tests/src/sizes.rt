@@ -138,7 +138,7 @@ static MANY: (Plan, Layout, [Sought; 8]) = (
         (1_048_576, 1, 18),
         (2_097_150, 1, 18),
         (2_097_152, 1, 18),
-        // before all, between two, behind all
+        // before all, between two, after all
         (1, 0, 14),
         (1_048_577, 0, 14),
         (2_097_153, 0, 14),

@@ -69,7 +69,7 @@ fn the_files_are_as_worked_out(rt: HostRuntime) -> Result<(), Fail> {
 enum Change {
     /// It is cut to this length.
     Cut,
-    /// The byte at this place is one more; behind the last byte there is then a byte 1.
+    /// The byte at this place is one more; after the last byte there is then a byte 1.
     Raised,
 }
 
@@ -112,7 +112,7 @@ static FIRST_SLOT: [Case; 24] = [
     (0, Change::Raised, 10, 18, Told::At(34)),
     // A second segment begins at 42: its file is 3, and its first number, bytes 46 to 53, has a 5 as the sixth byte.
     (0, Change::Raised, 18, 22, Told::At(46)),
-    // A third block begins at 60: its file is 2, its level 4, and its rows end behind the file. A third loose file is missing.
+    // A third block begins at 60: its file is 2, its level 4, and its rows end after the file. A third loose file is missing.
     (0, Change::Raised, 22, 30, Told::At(68)),
     // The segment is file 7 or above, where the next file is 7. It begins above the floor.
     (0, Change::Raised, 30, 34, Told::At(30)),
@@ -130,7 +130,7 @@ static FIRST_SLOT: [Case; 24] = [
     // The loose files are 3 and 5, which are blocks.
     (0, Change::Raised, 60, 64, Told::At(60)),
     (0, Change::Raised, 64, 68, Told::At(64)),
-    // What stands behind the list doesn't count.
+    // What follows the list doesn't count.
     (0, Change::Raised, 68, 69, Told::Opens),
     // Nothing is asked of loose files.
     (2, Change::Raised, 0, 1, Told::Opens),
@@ -175,12 +175,12 @@ static SECOND_SLOT: [Case; 30] = [
     // The last one is 6, which is the segment; or the next file or above.
     (1, Change::Raised, 63, 67, Told::At(63)),
     (1, Change::Raised, 67, 68, Told::Opens),
-    // The segment's version is 2. Its commit byte is open, and the record's length is missing. A byte stands behind its end.
+    // The segment's version is 2. Its commit byte is open, and the record's length is missing. A byte follows its end.
     (6, Change::Raised, 0, 1, Told::Here),
     (6, Change::Raised, 1, 2, Told::At(2)),
     (6, Change::Raised, 2, 3, Told::Opens),
     // The block's form is none; or it is form 2, in which a column of events is to follow the 109 bytes of the stripe's content. Its
-    // header has another number of pages, a byte of its fill isn't 0, and a byte stands behind its last page.
+    // header has another number of pages, a byte of its fill isn't 0, and a byte follows its last page.
     (7, Change::Raised, 0, 3, Told::At(0)),
     (7, Change::Raised, 3, 4, Told::At(4213)),
     (7, Change::Raised, 4, 8, Told::At(4)),

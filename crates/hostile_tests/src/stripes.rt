@@ -10,11 +10,11 @@ use std::test::Fail;
 /// A length of the stripe, and where it is malformed then, counted from its first byte.
 type Case = (u64, Option<u64>);
 
-/// The content begins behind the 8 bytes of its length and has 59: a text (2), a resource (2), a scope (4), the number of rows (1), and
+/// The content begins after the 8 bytes of its length and has 59: a text (2), a resource (2), a scope (4), the number of rows (1), and
 /// the columns of one row (50), of which the last one, the number of attributes, is one byte.
 static CASES: [Case; 13] = [
     (59, None),
-    // The last column passes the content's end; or there is a byte behind it.
+    // The last column passes the content's end; or there is a byte after it.
     (58, Some(66)),
     (60, Some(67)),
     (315, Some(67)),
@@ -83,7 +83,7 @@ fn wanted(entries: u64, broken: Option<u64>) -> Found {
     }
 }
 
-/// Whether look-ups find that behind the flush and behind another push, which is acknowledged all the same.
+/// Whether look-ups find that after the flush and after another push, which is acknowledged all the same.
 fn finds(alloc: Global, disk: OddDisk, broken: Option<u64>) -> bool {
     let steps = [
         Step::Push(0),

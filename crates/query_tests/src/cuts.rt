@@ -1,4 +1,4 @@
-//! Queries that are cut behind each byte: whether what is left is a query, or why and where it is refused. Worked out by hand.
+//! Queries that are cut after each byte: whether what is left is a query, or why and where it is refused. Worked out by hand.
 
 use crate::queries::refusal;
 use std::alloc::{AllocError, Global};
@@ -34,7 +34,7 @@ const IN_CONDITIONS: &[Run] = &[
     (34, 34, READ),
 ];
 
-/// Spansets and stages: a query ends behind each stage, and where a number needs no unit.
+/// Spansets and stages: a query ends after each stage, and after a number that needs no unit.
 const STAGES: &str = "({ } &>> { .b }) | by(kind) | max(-.c) <= -2h | select(status)";
 
 const IN_STAGES: &[Run] = &[
@@ -137,7 +137,7 @@ fn check_text(rt: &(impl Abort + AllocGlobal), text: &str, runs: &[Run]) {
 }
 
 #[test]
-fn texts_are_cut_behind_each_byte(rt: HostRuntime) {
+fn texts_are_cut_after_each_byte(rt: HostRuntime) {
     for (text, runs) in &TEXTS {
         check_text(&rt, text, runs);
     }
