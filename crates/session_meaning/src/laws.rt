@@ -208,6 +208,24 @@ pub fn sessions_keep_the_store()
         → HasFailedSince first.faults last }
 {}
 
+/// What is kept of a place over all that is done from there, over reopenings too.
+pub fn places_are_kept()
+    // The disk of an open store lists it.
+    ensures listed { (told : Bool) (acts : List Act) (replies : List Reply) (first last : Place)
+        → AreDone told first acts replies last
+        → (first.is_open ≡ true → first.is_listed ≡ true)
+        → last.is_open ≡ true → last.is_listed ≡ true }
+    // No job is left open while the store writes.
+    ensures closed { (told : Bool) (acts : List Act) (replies : List Reply) (first last : Place)
+        → AreDone told first acts replies last → IsClosed first.store.machine
+        → IsClosed last.store.machine }
+    // A store that wrote at first writes no more only where a call failed since.
+    ensures read_only { (told : Bool) (acts : List Act) (replies : List Reply)
+        (first last : Place)
+        → AreDone told first acts replies last → first.store.machine.read_only ≡ None
+        → HasFailedSince first.store.faults last.store }
+{}
+
 /// As many replies are `disk-fault` as calls of the disk failed.
 pub fn each_disk_fault_is_counted()
     // Of a session: no failed call goes untold, and no fault is told for which no call failed.
