@@ -22,12 +22,11 @@ struct Plan {
 /// leave each remainder once.
 const STEP: u64 = 618_031;
 
-/// The quotient and the remainder.
+/// The quotient and the remainder; by 0 they are 0.
 fn divided(number: u64, by: u64) -> (u64, u64) {
-    match by {
-        0 => (0, number),
-        _ => (number / by, number % by),
-    }
+    let quotient = number.checked_div(by).unwrap_or(0);
+    let rest = number.checked_rem(by).unwrap_or(0);
+    (quotient, rest)
 }
 
 impl Plan {
