@@ -127,9 +127,9 @@ pub fn a_store_answers_as_the_history_says<D: Device>(old: &Store<D>, new: &Stor
         → (last : Place) × IsKeptAt D.Device.own start least new.now last
         × AreDoneAmong (D.left_since (disk_of new.now) (D.moment start)) first acts replies last }
     // What is done so is done, whichever image an opening finds.
-    ensures done { (left : Image
-        → Type 0) (acts : List Act) (replies : List Reply) (first last : Place)
-        → AreDoneAmong left first acts replies last → AreDone true first acts replies last }
+    ensures done { (acts : List Act) (replies : List Reply) (first last : Place) (since : ℕ)
+        → AreDoneAmong (D.left_since (disk_of new.now) since) first acts replies last
+        → AreDone true first acts replies last }
 {}
 
 /// What is asked of an open store, with no reopening in between, is a session: so all that is said of sessions is said of
