@@ -2,4 +2,3 @@ pub mod Scripts
 pub mod Told
 pub mod Served
 pub mod Stages
-pub mod Numbers
