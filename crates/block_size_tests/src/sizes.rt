@@ -88,6 +88,9 @@ impl Plan {
 /// the index as the number of its pages has binary digits, and those of the trace's stripes.
 type Sought = (u64, usize, u64);
 
+/// Rows, the layout of their block, and traces that are sought in it.
+type Case = (Plan, Layout, &'static [Sought]);
+
 /// Asserts that so many rows are found, those that are to be kept.
 fn check_sought(
     rt: &(impl Abort + AllocGlobal),
@@ -116,7 +119,7 @@ fn check(rt: &(impl Abort + AllocGlobal), plan: &Plan, layout: &Layout, sought: 
 
 /// 2^20 traces of one row: 4,096 stripes. The header has 131,092 bytes, which is 33 pages, so the stripes end at page
 /// 33 + 4 · 4,096. Of the index 6,168 pages have 1,048,560 traces, and one has 16. Its number has 13 binary digits.
-static MANY: (Plan, Layout, [Sought; 8]) = (
+static MANY: Case = (
     Plan {
         traces: 1_048_576,
         spans: 1,
@@ -130,7 +133,7 @@ static MANY: (Plan, Layout, [Sought; 8]) = (
         bloom: (22_586, 512),
         pages: 23_098,
     },
-    [
+    &[
         // the first trace, the second one, one in the middle, the last but one, the last one
         (2, 1, 18),
         (4, 1, 18),
@@ -153,7 +156,7 @@ fn a_trace_for_each_of_1_048_576_rows(rt: HostRuntime) {
 /// 300,000 rows of one trace: 1,171 stripes of 256 rows, and one of 224. That has 18 bytes and 52 for each row, since
 /// positions from 16,384 on have three bytes: 11,666 bytes, three pages. The header has 37,524 bytes, which is ten pages, so
 /// the stripes end at page 10 + 4 · 1,171 + 3.
-static ONE: (Plan, Layout, [Sought; 3]) = (
+static ONE: Case = (
     Plan {
         traces: 1,
         spans: 300_000,
@@ -168,7 +171,7 @@ static ONE: (Plan, Layout, [Sought; 3]) = (
         pages: 4699,
     },
     // all pages but the header's ten
-    [(2, 300_000, 4689), (1, 0, 2), (3, 0, 2)],
+    &[(2, 300_000, 4689), (1, 0, 2), (3, 0, 2)],
 );
 
 #[test]
@@ -178,9 +181,7 @@ fn a_trace_of_300_000_rows(rt: HostRuntime) {
 }
 
 /// Rows with repeats, and the layout of the block of those that stay.
-type Repeats = (Plan, Layout, [Sought; 2]);
-
-static REPEATS: [Repeats; 2] = [
+static REPEATS: [Case; 2] = [
     // in one trace 100,000 rows of 1,000 spans: three stripes of 256, and one of 232 in 18 + 51 · 232 = 11,850 bytes
     (
         Plan {
@@ -196,7 +197,7 @@ static REPEATS: [Repeats; 2] = [
             bloom: (17, 1),
             pages: 18,
         },
-        [(2, 1000, 17), (4, 0, 2)],
+        &[(2, 1000, 17), (4, 0, 2)],
     ),
     // in all of 1,000 traces 100,000 rows of 10,000 spans: 39 stripes of 256, and one of 16 in 17 + 51 · 16 = 833 bytes;
     // five pages of the index have 850 traces, and one has 150
@@ -215,7 +216,7 @@ static REPEATS: [Repeats; 2] = [
             pages: 165,
         },
         // the rows of the 26th trace are 250 to 259, in two stripes; those of the last one are in the last stripe
-        [(52, 10, 12), (2000, 10, 5)],
+        &[(52, 10, 12), (2000, 10, 5)],
     ),
 ];
 
@@ -227,7 +228,7 @@ fn repeats_in_one_trace_and_in_all(rt: HostRuntime) {
 }
 
 /// As many rows as a block may have.
-static MOST_REPEATS: [Repeats; 2] = [
+static MOST_REPEATS: [Case; 2] = [
     // all of one span
     (
         Plan {
@@ -243,7 +244,7 @@ static MOST_REPEATS: [Repeats; 2] = [
             bloom: (3, 1),
             pages: 4,
         },
-        [(2, 1, 3), (4, 0, 2)],
+        &[(2, 1, 3), (4, 0, 2)],
     ),
     // of 262,144 traces: 1,024 stripes, and a header of 32,788 bytes, which is nine pages; 1,542 pages of the index
     // have 262,140 traces, and one has four; their number has eleven binary digits
@@ -261,7 +262,7 @@ static MOST_REPEATS: [Repeats; 2] = [
             bloom: (5648, 128),
             pages: 5776,
         },
-        [(262_144, 1, 16), (524_288, 1, 16)],
+        &[(262_144, 1, 16), (524_288, 1, 16)],
     ),
 ];
 
