@@ -149,12 +149,21 @@ pub(crate) enum Found {
     Other,
 }
 
-// What is told by the answer to a look-up.
+// What is told by an answer.
+fn told_by(answer: &TraceAnswer) -> Found {
+    if are_of(&answer.rows, answer.as_of) {
+        Found::Entries(answer.as_of)
+    } else {
+        Found::Other
+    }
+}
+
+// What is told by the answer to a look-up, or by its refusal.
 fn told(answer: Result<TraceAnswer, QueryError>) -> Found {
     match answer {
-        Ok(answer) if are_of(&answer.rows, answer.as_of) => Found::Entries(answer.as_of),
+        Ok(answer) => told_by(&answer),
         Err(QueryError::NotBlock { file, at }) => Found::NotBlock { file, at },
-        _ => Found::Other,
+        Err(_) => Found::Other,
     }
 }
 
