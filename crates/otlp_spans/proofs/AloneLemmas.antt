@@ -135,7 +135,7 @@ value_alone name d =
 
 -- ---- the only entry of an object
 
-object_of : (d : Data) (ms : Members) → Some ms ≡ as_object d → d ≡ object ms
+pub object_of : (d : Data) (ms : Members) → Some ms ≡ as_object d → d ≡ object ms
 object_of null ms h = cc h
 object_of (boolean b) ms h = cc h
 object_of (number n) ms h = cc h

@@ -10,6 +10,7 @@ use Rattle.otlp_spans.specs.Attributes.{list_in}
 use Rattle.otlp_spans.specs.Forms.{found}
 use Rattle.otlp_spans.specs.Json.{total}
 use Rattle.otlp_spans.specs.Reading.{scope_from, scope_spans, span_of}
+use Rattle.otlp_spans.specs.Walk.{items_from}
 use Rattle.otlp_spans.specs.declared.paths.Member.TheVariants as m
 
 one_more : (o : Option Span) (l : List Span) → cons_option o [] ++ l ≡ cons_option o l
@@ -26,10 +27,13 @@ pub each_one : (ds : List Data) → total (λ d. 1) ds ≡ length ds
 each_one [] = refl
 each_one (d ∷ ds) = let rest = each_one ds in omega arith
 
--- what was gathered of a member of `scopeSpans`
-pub scope_gathered : {T E : Type 0} (result : Result T E) (resource : Resource) (scope : Scope) (d : Data) (before after : List Span) → scope ≡ scope_from (found m.Scope d)
-    → OnOk result (after ≡ before ++ flat_map (λ e. cons_option (span_of resource scope e) []) (list_in m.Spans d)) → OnOk result (after ≡ before ++ scope_spans resource d)
+-- what was gathered of a member of `scopeSpans`, of which a scope and spans were found
+pub scope_gathered : {T E : Type 0} (result : Result T E) (resource : Resource) (scope : Scope) (d : Data) (found_scope found_spans : Option Data) (before after : List Span)
+    → scope ≡ scope_from found_scope → found_scope ≡ found m.Scope d → found_spans ≡ found m.Spans d
+    → OnOk result (after ≡ before ++ flat_map (λ e. cons_option (span_of resource scope e) []) (items_from found_spans)) → OnOk result (after ≡ before ++ scope_spans resource d)
 unfolding scope_spans
-scope_gathered result resource scope d before after is gathered =
+scope_gathered result resource scope d found_scope found_spans before after is same listed gathered =
     subst (λ (l : List Span). OnOk result (after ≡ before ++ l))
-    (spans_flat resource scope (list_in m.Spans d) ∙ ap (λ (c : Scope). filter_map (span_of resource c) (list_in m.Spans d)) is) gathered
+    (spans_flat resource scope (items_from found_spans)
+    ∙ ap (λ (o : Option Data). filter_map (span_of resource scope) (items_from o)) listed
+    ∙ ap (λ (c : Scope). filter_map (span_of resource c) (list_in m.Spans d)) (is ∙ ap scope_from same)) gathered

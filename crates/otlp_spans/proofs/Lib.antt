@@ -10,5 +10,6 @@ pub mod ReadsBackTrace
 pub mod ReadsBackFits
 pub mod KeyLemmas
 pub mod AloneLemmas
+pub mod TakenLemmas
 pub mod FormLaws
 pub mod ReadableLaws

@@ -1,24 +1,24 @@
 //! Reading lists of attributes.
 
-ghost use Rattle.std.specs.Prelude.{◌≡◌, ◌++◌, ◌∷◌, [], not, IfOk, IfSome, OnOk, List, None};
+ghost use Rattle.std.specs.Prelude.{◌≡◌, ◌++◌, ◌∷◌, [], not, option_map, string_bytes, IfOk, IfErr, OnOk, List, None};
 ghost use Rattle.std.specs.List.{filter};
 ghost use Rattle.std.specs.Option.{is_some};
-ghost use Rattle.serde_json.specs.Data.{member, no_members, object};
+ghost use Rattle.serde_json.specs.Data.{Data, member, no_members, object};
 ghost use Rattle.serde_json.specs.View.{view};
 ghost use Rattle.span_types.specs.declared.attrs.Attr.{Attr};
 ghost use Rattle.span_types.specs.Promises.{has_key};
-ghost use Rattle.otlp_spans.specs.Attributes.{attr_of, attrs_in, firsts_behind, nothing, only, skipped_attrs, value_by, value_in, value_of};
-ghost use Rattle.otlp_spans.specs.Forms.{attribute_form, attributes_form, first_in_field, found};
+ghost use Rattle.otlp_spans.specs.Attributes.{attr_of, attrs_in, firsts_behind, nothing, only, skipped_attrs, value_by, value_of};
+ghost use Rattle.otlp_spans.specs.Forms.{attribute_form, attributes_form, found as found_in};
 ghost use Rattle.otlp_spans.specs.Keys.{HasKeysOf, are_first, value_named};
-ghost use Rattle.otlp_spans.specs.Walk.{Adds, StopsAt};
+ghost use Rattle.otlp_spans.specs.Walk.{Adds, StopsAt, first_behind, kept_value};
 ghost use Rattle.otlp_spans.specs.declared.paths.Member.TheVariants as m;
 
 use crate::errors::Stop;
 use crate::fields::int;
-use crate::json::{found, owned, text_in};
-use crate::lists::{Item, ListItem, kept_in};
+use crate::json::{found, into_text, owned, take_two, text_from};
+use crate::lists::{Item, ListItem, kept_from};
 use crate::paths::Member;
-use serde_json::Value;
+use serde_json::{Map, Value};
 use span_types::{Attr, AttrValue, Attrs, Memory};
 use std::alloc::Global;
 use std::collections::BTreeSet;
@@ -51,7 +51,7 @@ fn value_by(alloc: Global, member: Member, value: &Value) -> Result<Option<AttrV
 
 /// The one of these members that a value has.
 fn one_of(value: &Value, members: &[Member]) -> Option<Member>
-    ensures { result ≡ only (filter (λ k. is_some (found k (view value.now))) members.now) }
+    ensures { result ≡ only (filter (λ k. is_some (found_in k (view value.now))) members.now) }
 {
     let mut one = None;
     for member in members {
@@ -66,39 +66,53 @@ fn one_of(value: &Value, members: &[Member]) -> Option<Member>
     one
 }
 
-/// The member of an object that has no other.
-fn alone(value: &Value) -> Option<(&str, &Value)>
-    ensures { IfSome result
-        (λ m. view value.now ≡ object (member m.0.now (view m.1.now) no_members)) }
+/// The one member of an object.
+fn only_member(members: Map<String, Value>) -> Result<(String, Value), Map<String, Value>>
+    ensures one { IfOk result (λ m. members.entries ≡ m ∷ []) }
+    ensures more { IfErr result (λ others. others ≡ members) }
 {
-    let object = value.as_object()?;
-    if object.len() != 1 {
-        return None;
+    if members.len() != 1 {
+        return Err(members);
     }
-    let (name, value) = object.first_key_value()?;
-    Some((name.as_str(), value))
+    let mut members = members;
+    match members.pop_first() {
+        Some(member) => Ok(member),
+        None => Err(members),
+    }
+}
+
+/// The member of a value that is an object and has no other.
+fn alone(value: Value) -> Result<(String, Value), Value>
+    ensures one { IfOk result
+        (λ m. view value ≡ object (member (string_bytes m.0) (view m.1) no_members)) }
+    ensures more { IfErr result (λ same. same ≡ value) }
+{
+    match value {
+        Value::Object(members) => match only_member(members) {
+            Ok(member) => Ok(member),
+            Err(members) => Err(Value::Object(members)),
+        },
+        other => Err(other),
+    }
 }
 
 /// What a value is by its one member, which has this name.
-fn value_named(alloc: Global, name: &str, value: &Value) -> Result<Option<AttrValue>, Memory>
-    ensures { IfOk result (λ v. v ≡ value_named name.now (view value.now)) }
+fn value_named(name: &str, value: Value) -> Option<AttrValue>
+    ensures { result ≡ value_named name.now (view value) }
 {
     match name {
-        "stringValue" => value_by(alloc, Member::StringValue, value),
-        "boolValue" => value_by(alloc, Member::BoolValue, value),
-        "intValue" => value_by(alloc, Member::IntValue, value),
-        _ => Ok(None),
+        "stringValue" => into_text(value).map(AttrValue::Text),
+        "boolValue" => value.as_bool().map(AttrValue::Truth),
+        "intValue" => int(&value).map(AttrValue::Whole),
+        _ => None,
     }
 }
 
-/// What a value is, where it is kept. Mostly it has one member; else each name is looked for.
+/// What a value is, where each of the seven names is looked for.
 #[tactic(auto, unfolding(crate::specs::Attributes::value_of))]
-fn value_of(alloc: Global, value: &Value) -> Result<Option<AttrValue>, Memory>
+fn value_by_names(alloc: Global, value: &Value) -> Result<Option<AttrValue>, Memory>
     ensures { IfOk result (λ v. v ≡ value_of (view value.now)) }
 {
-    if let Some((name, only)) = alone(value) {
-        return value_named(alloc, name, only);
-    }
     let Some(member) = one_of(value, &VALUE_MEMBERS) else {
         return Ok(None);
     };
@@ -108,11 +122,21 @@ fn value_of(alloc: Global, value: &Value) -> Result<Option<AttrValue>, Memory>
     }
 }
 
-/// An attribute's value, where it is kept.
-fn value_in(alloc: Global, item: &Value) -> Result<Option<AttrValue>, Memory>
-    ensures { IfOk result (λ v. v ≡ value_in (view item.now)) }
+/// What a value is, where it is kept. Mostly it has one member; else each name is looked for.
+fn value_of(alloc: Global, value: Value) -> Result<Option<AttrValue>, Memory>
+    ensures { IfOk result (λ v. v ≡ value_of (view value)) }
 {
-    match found(item, Member::Value) {
+    match alone(value) {
+        Ok((name, only)) => Ok(value_named(name.as_str(), only)),
+        Err(value) => value_by_names(alloc, &value),
+    }
+}
+
+/// An attribute's value that was found, where it is kept.
+fn value_from(alloc: Global, found: Option<Value>) -> Result<Option<AttrValue>, Memory>
+    ensures { IfOk result (λ v. v ≡ kept_value (option_map view found)) }
+{
+    match found {
         Some(value) => value_of(alloc, value),
         None => Ok(None),
     }
@@ -126,18 +150,18 @@ impl ListItem for Attr {
     ghost inside = { nothing };
 
     #[tactic(auto, unfolding(crate::specs::Attributes::attr_of))]
-    fn read(alloc: Global, value: &Value) -> Result<Item<Attr>, Stop> {
+    fn read(alloc: Global, value: Value) -> Result<Item<Attr>, Stop> {
         if !value.is_object() {
             return Err(Stop::here(alloc));
         }
-        let key = text_in(alloc, value, Member::Key)?;
-        let Some(value) = value_in(alloc, value)? else {
+        let parts = take_two(alloc, value, Member::Key, Member::Value);
+        let key = text_from(alloc, parts.first, Member::Key)?;
+        let Some(value) = value_from(alloc, parts.second)? else {
             return Ok(Item {
                 kept: None,
                 skipped: 1,
             });
         };
-        let key = owned(alloc, key)?;
         Ok(Item {
             kept: Some(Attr { key, value }),
             skipped: 0,
@@ -231,16 +255,19 @@ pub(crate) struct Attributes {
     pub(crate) skipped: u64,
 }
 
-/// The attributes of an object.
+/// The attributes of an object, of which they were found.
 #[tactic(auto, unfolding(crate::specs::Attributes::attrs_in, crate::specs::Attributes::skipped_attrs))]
-pub(crate) fn attributes_in(alloc: Global, value: &Value) -> Result<Attributes, Stop>
-    ensures attrs { IfOk result (λ a. a.attrs ≡ attrs_in (view value.now)) }
-    ensures skipped { IfOk result (λ a. Adds 0 a.skipped (skipped_attrs (view value.now))) }
+pub(crate) fn attributes_from(alloc: Global, found: Option<Value>) -> Result<Attributes, Stop>
+    ensures attrs { IfOk result (λ a. (d : Data) → option_map view found ≡ found_in m.Attributes d
+        → a.attrs ≡ attrs_in d) }
+    ensures skipped { IfOk result (λ a. (d : Data) → option_map view found ≡ found_in m.Attributes d
+        → Adds 0 a.skipped (skipped_attrs d)) }
     ensures right { IfOk result
-        (λ _. first_in_field m.Attributes attributes_form (view value.now) ≡ None) }
-    ensures wrong { StopsAt result (first_in_field m.Attributes attributes_form (view value.now)) }
+        (λ _. first_behind m.Attributes attributes_form (option_map view found) ≡ None) }
+    ensures wrong { StopsAt result
+        (first_behind m.Attributes attributes_form (option_map view found)) }
 {
-    let kept = kept_in::<Attr>(alloc, value, Member::Attributes)?;
+    let kept = kept_from::<Attr>(alloc, found, Member::Attributes)?;
     Ok(Attributes {
         attrs: Attrs::of(firsts(alloc, kept.items)?),
         skipped: kept.skipped,

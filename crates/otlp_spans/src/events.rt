@@ -6,11 +6,11 @@ ghost use Rattle.otlp_spans.specs.Reading.{event_of, event_time, link_of};
 ghost use Rattle.std.specs.Prelude.{◌≡◌};
 ghost use Rattle.serde_json.specs.View.{view};
 
-use crate::attributes::attributes_in;
+use crate::attributes::attributes_from;
 use crate::errors::Stop;
 use crate::fields::whole;
 use crate::ids::{span_in, trace_in};
-use crate::json::{found, owned, text_in};
+use crate::json::{found, take_one, take_two, text_from};
 use crate::lists::{Item, ListItem};
 use crate::paths::Member;
 use serde_json::Value;
@@ -35,13 +35,15 @@ impl ListItem for SpanEvent {
     ghost inside = { skipped_attrs };
 
     #[tactic(auto, unfolding(crate::specs::Reading::event_of))]
-    fn read(alloc: Global, value: &Value) -> Result<Item<SpanEvent>, Stop> {
+    fn read(alloc: Global, value: Value) -> Result<Item<SpanEvent>, Stop> {
         if !value.is_object() {
             return Err(Stop::here(alloc));
         }
-        let name = text_in(alloc, value, Member::Name)?;
-        let attributes = attributes_in(alloc, value)?;
-        let Some(time) = event_time(value) else {
+        let time = event_time(&value);
+        let parts = take_two(alloc, value, Member::Name, Member::Attributes);
+        let name = text_from(alloc, parts.first, Member::Name)?;
+        let attributes = attributes_from(alloc, parts.second)?;
+        let Some(time) = time else {
             return Ok(Item {
                 kept: None,
                 skipped: 1,
@@ -49,7 +51,7 @@ impl ListItem for SpanEvent {
         };
         let event = SpanEvent {
             time,
-            name: owned(alloc, name)?,
+            name,
             attrs: attributes.attrs,
         };
         Ok(Item {
@@ -67,12 +69,14 @@ impl ListItem for SpanLink {
     ghost inside = { skipped_attrs };
 
     #[tactic(auto, unfolding(crate::specs::Reading::link_of))]
-    fn read(alloc: Global, value: &Value) -> Result<Item<SpanLink>, Stop> {
+    fn read(alloc: Global, value: Value) -> Result<Item<SpanLink>, Stop> {
         if !value.is_object() {
             return Err(Stop::here(alloc));
         }
-        let attributes = attributes_in(alloc, value)?;
-        let (Some(trace), Some(span)) = (trace_in(value), span_in(value)) else {
+        let trace = trace_in(&value);
+        let span = span_in(&value);
+        let attributes = attributes_from(alloc, take_one(alloc, value, Member::Attributes))?;
+        let (Some(trace), Some(span)) = (trace, span) else {
             return Ok(Item {
                 kept: None,
                 skipped: 1,

@@ -1,18 +1,17 @@
 //! Going over the spans of a line.
 
-ghost use Rattle.std.specs.Prelude.{◌≡◌, ◌++◌, [], map, IfOk, OnOk, None};
+ghost use Rattle.std.specs.Prelude.{◌≡◌, ◌++◌, [], map, option_map, IfOk, OnOk, None};
 ghost use Rattle.std.specs.List.{cons_option, flat_map};
 ghost use Rattle.serde_json.specs.View.{view};
-ghost use Rattle.otlp_spans.specs.Attributes.{list_in};
-ghost use Rattle.otlp_spans.specs.Forms.{ListOf, first_in_field, first_in_items, first_wrong, request_form, resource_spans_form, scope_spans_form, span_form};
+ghost use Rattle.otlp_spans.specs.Forms.{ListOf, first_in_items, first_wrong, request_form, resource_spans_form, scope_spans_form, span_form};
 ghost use Rattle.otlp_spans.specs.Json.{total};
 ghost use Rattle.otlp_spans.specs.Reading.{objects_of, objects_of_resource, objects_of_scope, resource_spans, scope_spans, skipped_of, skipped_of_resource, skipped_of_scope, skipped_of_span, span_of, spans_of};
-ghost use Rattle.otlp_spans.specs.Walk.{Adds, StopsAt};
+ghost use Rattle.otlp_spans.specs.Walk.{Adds, StopsAt, first_behind, items_from};
 
 use crate::errors::Stop;
 use crate::ids::read_ids;
-use crate::json::list_in;
-use crate::origins::origin_in;
+use crate::json::{list_from, take_one, take_two};
+use crate::origins::origin_from;
 use crate::parts::{read_labels, read_rest, span_with};
 use crate::paths::{Member, Step};
 use serde_json::Value;
@@ -46,68 +45,73 @@ trait Level {
     ghost objects_of: { Data → ℕ };
 
     /// One such object.
-    fn read(&self, alloc: Global, value: &Value, gathered: &mut Gathered) -> Result<(), Stop>
+    fn read(&self, alloc: Global, value: Value, gathered: &mut Gathered) -> Result<(), Stop>
         ensures spans { OnOk result
             (gathered.new.spans.items ≡ gathered.old.spans.items
-            ++ spans_of self.now (view value.now)) }
+            ++ spans_of self.now (view value)) }
         ensures skipped { OnOk result
-            (Adds gathered.old.skipped gathered.new.skipped (skipped_of (view value.now))) }
+            (Adds gathered.old.skipped gathered.new.skipped (skipped_of (view value))) }
         ensures objects { OnOk result
-            (Adds gathered.old.objects gathered.new.objects (objects_of (view value.now))) }
-        ensures right { OnOk result (first_wrong form (view value.now) ≡ None) }
-        ensures wrong { StopsAt result (first_wrong form (view value.now)) };
+            (Adds gathered.old.objects gathered.new.objects (objects_of (view value))) }
+        ensures right { OnOk result (first_wrong form (view value) ≡ None) }
+        ensures wrong { StopsAt result (first_wrong form (view value)) };
 }
 
 /// The objects of a list.
 fn read_all<L: Level>(
     level: &L,
     alloc: Global,
-    values: &[Value],
+    values: Vec<Value>,
     gathered: &mut Gathered,
 ) -> Result<(), Stop>
     ensures spans { OnOk result
         (gathered.new.spans.items ≡ gathered.old.spans.items
-        ++ flat_map (L.spans_of level.now) (map view values.now)) }
+        ++ flat_map (L.spans_of level.now) (map view values.items)) }
     ensures skipped { OnOk result
         (Adds gathered.old.skipped gathered.new.skipped
-        (total L.skipped_of (map view values.now))) }
+        (total L.skipped_of (map view values.items))) }
     ensures objects { OnOk result
         (Adds gathered.old.objects gathered.new.objects
-        (total L.objects_of (map view values.now))) }
+        (total L.objects_of (map view values.items))) }
     ensures right { OnOk result
-        (first_in_items (first_wrong L.form) 0 (map view values.now) ≡ None) }
-    ensures wrong { StopsAt result (first_in_items (first_wrong L.form) 0 (map view values.now)) }
+        (first_in_items (first_wrong L.form) 0 (map view values.items) ≡ None) }
+    ensures wrong { StopsAt result (first_in_items (first_wrong L.form) 0 (map view values.items)) }
 {
-    for i in 0..values.len() {
-        match level.read(alloc, &values[i], gathered) {
+    // That the index of each fits.
+    let _count = values.len();
+    let mut i: usize = 0;
+    for value in values {
+        match level.read(alloc, value, gathered) {
             Ok(()) => {}
             Err(stop) => return Err(stop.behind(Step::Item(i))),
         }
+        i += 1;
     }
     Ok(())
 }
 
-/// The objects of the list that a member is; none where it is absent.
+/// The objects of the list that was found as a member; none where it is absent.
 fn read_member<L: Level>(
     level: &L,
     alloc: Global,
-    value: &Value,
+    found: Option<Value>,
     member: Member,
     gathered: &mut Gathered,
 ) -> Result<(), Stop>
     ensures spans { OnOk result
         (gathered.new.spans.items ≡ gathered.old.spans.items
-        ++ flat_map (L.spans_of level.now) (list_in member (view value.now))) }
+        ++ flat_map (L.spans_of level.now) (items_from (option_map view found))) }
     ensures skipped { OnOk result
         (Adds gathered.old.skipped gathered.new.skipped
-        (total L.skipped_of (list_in member (view value.now)))) }
+        (total L.skipped_of (items_from (option_map view found)))) }
     ensures objects { OnOk result
         (Adds gathered.old.objects gathered.new.objects
-        (total L.objects_of (list_in member (view value.now)))) }
-    ensures right { OnOk result (first_in_field member (ListOf L.form) (view value.now) ≡ None) }
-    ensures wrong { StopsAt result (first_in_field member (ListOf L.form) (view value.now)) }
+        (total L.objects_of (items_from (option_map view found)))) }
+    ensures right { OnOk result
+        (first_behind member (ListOf L.form) (option_map view found) ≡ None) }
+    ensures wrong { StopsAt result (first_behind member (ListOf L.form) (option_map view found)) }
 {
-    let values = list_in(alloc, value, member)?;
+    let values = list_from(alloc, found, member)?;
     match read_all(level, alloc, values, gathered) {
         Ok(()) => Ok(()),
         Err(stop) => Err(stop.behind(Step::Of(member))),
@@ -130,14 +134,15 @@ impl Level for SpanLevel<'_> {
 
     ghost objects_of = { λ _. 1 };
 
-    fn read(&self, alloc: Global, value: &Value, gathered: &mut Gathered) -> Result<(), Stop> {
+    fn read(&self, alloc: Global, value: Value, gathered: &mut Gathered) -> Result<(), Stop> {
         if !value.is_object() {
             return Err(Stop::here(alloc));
         }
-        let labels = read_labels(alloc, value)?;
+        let labels = read_labels(alloc, &value)?;
+        let ids = read_ids(&value);
         let rest = read_rest(alloc, value)?;
         gathered.objects = gathered.objects.saturating_add(1);
-        let Some(ids) = read_ids(value) else {
+        let Some(ids) = ids else {
             return Ok(());
         };
         let skipped = rest.skipped;
@@ -164,18 +169,19 @@ impl Level for ScopeLevel<'_> {
     ghost objects_of = { objects_of_scope };
 
     #[tactic(auto, using(crate::proofs::LevelLemmas::each_one), unfolding(crate::specs::Reading::scope_spans, crate::specs::Reading::skipped_of_scope))]
-    fn read(&self, alloc: Global, value: &Value, gathered: &mut Gathered) -> Result<(), Stop> {
+    fn read(&self, alloc: Global, value: Value, gathered: &mut Gathered) -> Result<(), Stop> {
         if !value.is_object() {
             return Err(Stop::here(alloc));
         }
-        let read = origin_in::<Scope>(alloc, value)?;
+        let parts = take_two(alloc, value, Member::Scope, Member::Spans);
+        let read = origin_from::<Scope>(alloc, parts.first)?;
         let scope = SharedScope::of(alloc, read.origin)?;
         gathered.skipped = gathered.skipped.saturating_add(read.skipped);
         let level = SpanLevel {
             resource: self.resource,
             scope: &scope,
         };
-        read_member(&level, alloc, value, Member::Spans, gathered)
+        read_member(&level, alloc, parts.second, Member::Spans, gathered)
     }
 }
 
@@ -193,28 +199,29 @@ impl Level for ResourceLevel {
     ghost objects_of = { objects_of_resource };
 
     #[tactic(auto, unfolding(crate::specs::Reading::resource_spans, crate::specs::Reading::skipped_of_resource, crate::specs::Reading::objects_of_resource))]
-    fn read(&self, alloc: Global, value: &Value, gathered: &mut Gathered) -> Result<(), Stop> {
+    fn read(&self, alloc: Global, value: Value, gathered: &mut Gathered) -> Result<(), Stop> {
         if !value.is_object() {
             return Err(Stop::here(alloc));
         }
-        let read = origin_in::<Resource>(alloc, value)?;
+        let parts = take_two(alloc, value, Member::Resource, Member::ScopeSpans);
+        let read = origin_from::<Resource>(alloc, parts.first)?;
         let resource = SharedResource::of(alloc, read.origin)?;
         gathered.skipped = gathered.skipped.saturating_add(read.skipped);
         let level = ScopeLevel {
             resource: &resource,
         };
-        read_member(&level, alloc, value, Member::ScopeSpans, gathered)
+        read_member(&level, alloc, parts.second, Member::ScopeSpans, gathered)
     }
 }
 
 /// What a line's value has.
 #[tactic(auto, unfolding(crate::specs::Reading::spans_of, crate::specs::Reading::skipped_of, crate::specs::Reading::objects_of))]
-pub(crate) fn gather(alloc: Global, value: &Value) -> Result<Gathered, Stop>
-    ensures spans { IfOk result (λ g. g.spans.items ≡ spans_of (view value.now)) }
-    ensures skipped { IfOk result (λ g. Adds 0 g.skipped (skipped_of (view value.now))) }
-    ensures objects { IfOk result (λ g. Adds 0 g.objects (objects_of (view value.now))) }
-    ensures right { IfOk result (λ _. first_wrong request_form (view value.now) ≡ None) }
-    ensures wrong { StopsAt result (first_wrong request_form (view value.now)) }
+pub(crate) fn gather(alloc: Global, value: Value) -> Result<Gathered, Stop>
+    ensures spans { IfOk result (λ g. g.spans.items ≡ spans_of (view value)) }
+    ensures skipped { IfOk result (λ g. Adds 0 g.skipped (skipped_of (view value))) }
+    ensures objects { IfOk result (λ g. Adds 0 g.objects (objects_of (view value))) }
+    ensures right { IfOk result (λ _. first_wrong request_form (view value) ≡ None) }
+    ensures wrong { StopsAt result (first_wrong request_form (view value)) }
 {
     if !value.is_object() {
         return Err(Stop::here(alloc));
@@ -224,10 +231,11 @@ pub(crate) fn gather(alloc: Global, value: &Value) -> Result<Gathered, Stop>
         objects: 0,
         skipped: 0,
     };
+    let found = take_one(alloc, value, Member::ResourceSpans);
     read_member(
         &ResourceLevel,
         alloc,
-        value,
+        found,
         Member::ResourceSpans,
         &mut gathered,
     )?;

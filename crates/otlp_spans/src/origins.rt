@@ -1,15 +1,15 @@
 //! Reading resources and scopes.
 
-ghost use Rattle.std.specs.Prelude.{◌≡◌, IfOk, None, Some};
+ghost use Rattle.std.specs.Prelude.{◌≡◌, option_map, IfOk, None, Some};
 ghost use Rattle.serde_json.specs.View.{view};
-ghost use Rattle.otlp_spans.specs.Forms.{first_in_field, first_wrong, found, resource_form, scope_form};
+ghost use Rattle.otlp_spans.specs.Forms.{first_wrong, resource_form, scope_form};
 ghost use Rattle.otlp_spans.specs.Reading.{resource_from, scope_from, skipped_from};
-ghost use Rattle.otlp_spans.specs.Walk.{Adds, StopsAt};
+ghost use Rattle.otlp_spans.specs.Walk.{Adds, StopsAt, first_behind};
 ghost use Rattle.otlp_spans.specs.declared.paths.Member.TheVariants as m;
 
-use crate::attributes::attributes_in;
+use crate::attributes::attributes_from;
 use crate::errors::Stop;
-use crate::json::{found, owned, text_in};
+use crate::json::{owned, take_one, text_in};
 use crate::paths::{Member, Step};
 use serde_json::Value;
 use span_runs::Origin;
@@ -44,12 +44,11 @@ pub(crate) trait OriginMember: Origin {
         ensures { result ≡ from None };
 
     /// The one that a value is.
-    fn read(alloc: Global, value: &Value) -> Result<OriginRead<Self>, Stop>
-        ensures origin { IfOk result (λ r. r.origin ≡ from (Some (view value.now))) }
-        ensures skipped { IfOk result
-            (λ r. Adds 0 r.skipped (skipped_from (Some (view value.now)))) }
-        ensures right { IfOk result (λ _. first_wrong form (view value.now) ≡ None) }
-        ensures wrong { StopsAt result (first_wrong form (view value.now)) };
+    fn read(alloc: Global, value: Value) -> Result<OriginRead<Self>, Stop>
+        ensures origin { IfOk result (λ r. r.origin ≡ from (Some (view value))) }
+        ensures skipped { IfOk result (λ r. Adds 0 r.skipped (skipped_from (Some (view value)))) }
+        ensures right { IfOk result (λ _. first_wrong form (view value) ≡ None) }
+        ensures wrong { StopsAt result (first_wrong form (view value)) };
 }
 
 impl OriginMember for Resource {
@@ -67,11 +66,11 @@ impl OriginMember for Resource {
         }
     }
 
-    fn read(alloc: Global, value: &Value) -> Result<OriginRead<Resource>, Stop> {
+    fn read(alloc: Global, value: Value) -> Result<OriginRead<Resource>, Stop> {
         if !value.is_object() {
             return Err(Stop::here(alloc));
         }
-        let attributes = attributes_in(alloc, value)?;
+        let attributes = attributes_from(alloc, take_one(alloc, value, Member::Attributes))?;
         let origin = Resource {
             attrs: attributes.attrs,
         };
@@ -99,15 +98,15 @@ impl OriginMember for Scope {
         }
     }
 
-    fn read(alloc: Global, value: &Value) -> Result<OriginRead<Scope>, Stop> {
+    fn read(alloc: Global, value: Value) -> Result<OriginRead<Scope>, Stop> {
         if !value.is_object() {
             return Err(Stop::here(alloc));
         }
-        let name = text_in(alloc, value, Member::Name)?;
+        let name = text_in(alloc, &value, Member::Name)?;
         let name = owned(alloc, name)?;
-        let version = text_in(alloc, value, Member::Version)?;
+        let version = text_in(alloc, &value, Member::Version)?;
         let version = owned(alloc, version)?;
-        let attributes = attributes_in(alloc, value)?;
+        let attributes = attributes_from(alloc, take_one(alloc, value, Member::Attributes))?;
         let origin = Scope {
             name,
             version,
@@ -120,18 +119,18 @@ impl OriginMember for Scope {
     }
 }
 
-/// The one that stands in an object: one of which nothing is said where the member is absent.
-pub(crate) fn origin_in<O: OriginMember>(
+/// The one that was found as a member: one of which nothing is said where the member is absent.
+pub(crate) fn origin_from<O: OriginMember>(
     alloc: Global,
-    value: &Value,
+    found: Option<Value>,
 ) -> Result<OriginRead<O>, Stop>
-    ensures origin { IfOk result (λ r. r.origin ≡ O.from (found O.MEMBER (view value.now))) }
+    ensures origin { IfOk result (λ r. r.origin ≡ O.from (option_map view found)) }
     ensures skipped { IfOk result
-        (λ r. Adds 0 r.skipped (skipped_from (found O.MEMBER (view value.now)))) }
-    ensures right { IfOk result (λ _. first_in_field O.MEMBER O.form (view value.now) ≡ None) }
-    ensures wrong { StopsAt result (first_in_field O.MEMBER O.form (view value.now)) }
+        (λ r. Adds 0 r.skipped (skipped_from (option_map view found))) }
+    ensures right { IfOk result (λ _. first_behind O.MEMBER O.form (option_map view found) ≡ None) }
+    ensures wrong { StopsAt result (first_behind O.MEMBER O.form (option_map view found)) }
 {
-    let Some(found) = found(value, O::MEMBER) else {
+    let Some(found) = found else {
         return Ok(OriginRead {
             origin: O::absent(alloc),
             skipped: 0,

@@ -69,7 +69,7 @@ pub fn read_line(alloc: Global, line: &[u8]) -> Result<Reading, OtlpError>
     ensures readable { IfOk result (λ r. All IsReadable r.batch.spans) }
 {
     let value = read_json(alloc, line)?;
-    match gather(alloc, &value) {
+    match gather(alloc, value) {
         Ok(gathered) => counted(gathered),
         Err(Stop::Wrong(path)) => Err(OtlpError::NotRequest {
             path: path.text(alloc)?,

@@ -59,16 +59,16 @@ all_first (i ∷ is) (r ∷ rs) u =
     ∙ all_first is rs (unsure_after_line u i r)
 
 -- and a session is done over an open store
-pub session_asks : (told : Bool) (items : List Item) (replies : List Reply) (first last : At) (unsure : Option Entry) (pending : List Pending) → Session told first items replies last
-    → AreDone told (record { store = first; is_open = true; unsure = unsure; pending = pending }) (map Ask items) replies
-    (record { store = last; is_open = true; unsure = unsure_after_all unsure items replies; pending = pending })
-session_asks told [] replies first last unsure pending h =
-    (h.0, ap (λ (at : At). record { store = at; is_open = true; unsure = unsure; pending = pending }) h.1)
-session_asks told (i ∷ is) [] first last unsure pending h = absurd h
-session_asks told (i ∷ is) (r ∷ rs) first last unsure pending h = (
-  record { store = h.0; is_open = true; unsure = unsure_after_line unsure i r; pending = pending },
+pub session_asks : (told : Bool) (items : List Item) (replies : List Reply) (first last : At) (is_listed : Bool) (unsure : Option Entry) (pending : List Pending) → Session told first items replies last
+    → AreDone told (record { store = first; is_open = true; is_listed = is_listed; unsure = unsure; pending = pending }) (map Ask items) replies
+    (record { store = last; is_open = true; is_listed = is_listed; unsure = unsure_after_all unsure items replies; pending = pending })
+session_asks told [] replies first last is_listed unsure pending h =
+    (h.0, ap (λ (at : At). record { store = at; is_open = true; is_listed = is_listed; unsure = unsure; pending = pending }) h.1)
+session_asks told (i ∷ is) [] first last is_listed unsure pending h = absurd h
+session_asks told (i ∷ is) (r ∷ rs) first last is_listed unsure pending h = (
+  record { store = h.0; is_open = true; is_listed = is_listed; unsure = unsure_after_line unsure i r; pending = pending },
   (refl, h.1, refl),
-  session_asks told is rs h.0 last (unsure_after_line unsure i r) pending h.2,
+  session_asks told is rs h.0 last is_listed (unsure_after_line unsure i r) pending h.2,
 )
 
 -- ---- faults

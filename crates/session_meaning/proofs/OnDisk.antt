@@ -12,7 +12,7 @@ use Rattle.disk_model.specs.Images.{Image, bytes_of}
 use Rattle.disk_model.specs.Crash.{LeavesOnly}
 use Rattle.disk_model.specs.declared.disk.Device.{Ghosts}
 use Rattle.disk_model.proofs.Moments.{joined, started}
-use Rattle.block_list.specs.Loading.{IsReady}
+use Rattle.block_list.specs.Loading.{IsReady, KeepsList}
 use Rattle.block_list.specs.declared.body.ListBody.{ListBody}
 use Rattle.store_model.specs.After.{arrived}
 use Rattle.store_model.specs.History.{record_rows}
@@ -22,7 +22,7 @@ use Rattle.store_model.specs.Step.{Machine}
 use Rattle.store_model.proofs.RowSetLaws.{first_is_in}
 use Rattle.store_images.specs.Stored.{IsTidy, SameFirsts, first_number, named_files, next_file_of, stored_rows}
 use Rattle.store_images.proofs.Between.{in_later, later_in}
-use Rattle.store_images.proofs.Keeping.{blocks_same, one_list, slots_same}
+use Rattle.store_images.proofs.Keeping.{block_named, blocks_same, given_out, one_list, rules_in, segment_named, slots_same}
 use Rattle.store_images.proofs.Logs.{log_same}
 use Rattle.store_core.specs.Cores.{CoreStandsFor}
 use Rattle.store_core.specs.Opening.{BeginsAs, opened_state}
@@ -112,6 +112,26 @@ module _ {D : Type 0} (g : Ghosts D) where
         (calls_tidy made.0 new cs made.2 next.machine next.stands (subst IsTrue (sym did.counts.telling) tells)
         (λ image left. one.each image (counts_now made.0.disk (g.moment old.disk) image one.later left)))
 
+-- What keeps the list lists the state as before.
+pub lists_kept : (old new : Image) (u : State) → KeepsList old new → ListsState old u → ListsState new u
+lists_kept old new u keeps lists =
+    let list = lists.list in
+    let rules = rules_in old list lists.counts in record {
+      list = list;
+      counts = keeps.list (Some list) lists.counts;
+      blocks = lists.blocks;
+      built = blocks_same old new u.blocks (λ b c. keeps.files b.file (given_out list b.file rules (block_named list u.blocks b lists.blocks c)).0) lists.built;
+      segments = lists.segments;
+      floor = lists.floor;
+      used = lists.used;
+      given = lists.given;
+      batches = lists.batches;
+      logged = log_same old new list.segments (first_number list) lists.batches
+          (λ x c. keeps.files x.file (given_out list x.file rules (segment_named list x c)).0) lists.logged;
+      waits = lists.waits;
+      known = lists.known;
+    }
+
 -- ---- where the next run begins
 
 rows_arrived : (moment : ℕ) (rows : List Row) → live_rows (arrived moment rows) ≡ rows
@@ -138,11 +158,11 @@ begins_listed image u moment m lists begins =
 
 -- A run on what an earlier one left.
 pub next_listed : {D : Type 0} (g : Ghosts D) (begun left disk later : D) (one next : Outcome) → Recovers g begun left one → Recovers g disk later next
-    → IsTrue one.opened → IsTrue next.opened → one.last.is_open ≡ true → one.last.store.machine.read_only ≡ None → g.may_leave left (g.held disk)
+    → IsTrue one.opened → IsTrue next.opened → one.last.is_listed ≡ true → one.last.store.machine.read_only ≡ None → g.may_leave left (g.held disk)
     → BeginsListed (g.held disk) one.last.store.machine.state next.moment next.first.machine.state
-next_listed g begun left disk later one next first second opened again is_open writes possible =
+next_listed g begun left disk later one next first second opened again is_listed writes possible =
     begins_listed (g.held disk) one.last.store.machine.state next.moment next.first.machine
-    (first.kept_up opened is_open writes (g.held disk) possible) (second.begins again).begins
+    (first.kept_up opened is_listed writes (g.held disk) possible) (second.begins again).begins
 
 -- ---- files without a use
 

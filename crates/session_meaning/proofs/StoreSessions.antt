@@ -1,5 +1,6 @@
 -- What is done over a store that is open or closed is what a session means.
-use Rattle.std.proofs.Common.{arith, ◌≡◌, ◌≢◌, ⊤, inl, inr, ℕ, ◌≤◌, Bool, true, false, List, [], ◌∷◌, ◌++◌, Option, None, Some, Result, Ok, Err, IsTrue, map, refl, sym, ◌∙◌, ap, subst}
+use Rattle.std.specs.Prelude.{⊤}
+use Rattle.std.proofs.Common.{arith, ◌≡◌, ◌≢◌, inl, inr, ℕ, ◌≤◌, Bool, true, false, not, ◌&&◌, List, [], ◌∷◌, ◌++◌, Option, None, Some, Result, Ok, Err, IsTrue, map, refl, sym, ◌∙◌, ap, subst}
 use Rattle.disk_model.specs.Counts.{Raised}
 use Rattle.disk_model.specs.Crash.{LeavesOnly, Reached}
 use Rattle.disk_model.specs.Images.{Image}
@@ -16,7 +17,7 @@ use Rattle.store_model.specs.State.{State}
 use Rattle.store_model.specs.Step.{Machine}
 use Rattle.client_run.proofs.CallLemmas.{tells_kept}
 use Rattle.store_core.specs.Cores.{unsure_of}
-use Rattle.store_core.specs.Opening.{BeginsAs, BeginsEmpty, opened_state}
+use Rattle.store_core.specs.Opening.{BeginsAs, BeginsEmpty, LeavesAlone, opened_state}
 use Rattle.store_core.specs.NewCore.{new_machine}
 use Rattle.store_core.specs.Port.{port_of}
 use Rattle.store_core.specs.declared.error.OpenError.{OpenError}
@@ -32,15 +33,14 @@ use Rattle.session_meaning.specs.Act.Act.{Ask, Reopen, Unread}
 use Rattle.session_meaning.specs.Answering.{at_core}
 use Rattle.session_meaning.specs.At.{At}
 use Rattle.session_meaning.specs.Done.{AreDone, AreDoneAmong, IsDone, IsDoneAmong, IsReopened}
-use Rattle.session_meaning.specs.Listed.{ListsState}
-use Rattle.session_meaning.specs.Over.{AreDoneOver, IsDoneOver, IsKeptAt, IsShownAt, StandsForPlace, reopened_reply}
+use Rattle.session_meaning.specs.Over.{AreDoneOver, DiskLists, IsDoneOver, IsKeptAt, IsShownAt, StandsForPlace, reopened_reply}
 use Rattle.session_meaning.specs.Place.{Place, ever_unsure, history_at}
 use Rattle.session_meaning.specs.Progress.{AreAnsweredOver, HasAnsweredOne, IsAnsweredOver}
 use Rattle.session_meaning.specs.Pushes.{unsure_after_line}
 use Rattle.session_meaning.specs.Session.{IsAnsweredOrRefused}
 use Rattle.session_meaning.specs.Stops.{AreTidy}
 use Rattle.session_meaning.proofs.CoreSessions.{one_shown, one_through, one_unsure}
-use Rattle.session_meaning.proofs.OnDisk.{calls_tidy, lists_state}
+use Rattle.session_meaning.proofs.OnDisk.{calls_tidy, lists_kept, lists_state}
 use Rattle.session_meaning.proofs.SessionLaws.{one_replied}
 
 -- ---- an opening
@@ -65,13 +65,31 @@ begins_empty image h moment m stands begins = by_stores (count_of h) stands.stor
     by_stores count (filled body blocks batches holds one rows is) =
         of_state (opened_state body blocks batches moment) (begins.found body blocks batches holds.listed holds.its_blocks holds.built holds.logged) refl refl refl refl refl refl
 
+-- a call of the disk failed in the opening
+abbrev failed_in_call : OpenError → Bool
+failed_in_call Fault = true
+failed_in_call (NotStore file at) = false
+failed_in_call Memory = false
+
 -- where a session stands whose store was closed, and not opened again
-abbrev closed_at : Place → ℕ → Place
-closed_at first faults = record first { store = record { machine = first.store.machine; faults = faults }; is_open = false }
+abbrev closed_at : Place → OpenError → ℕ → Place
+closed_at first why faults = record first {
+  store = record { machine = first.store.machine; faults = faults };
+  is_open = false;
+  is_listed = first.is_listed && not (failed_in_call why);
+}
+
+listed_still : (b : Bool) → (b && true) ≡ true → b ≡ true
+listed_still true e = refl
+listed_still false e = let bad : ⊥ = cc in absurd bad
+
+not_listed : (b : Bool) → (b && false) ≡ true → ⊥
+not_listed true e = let bad : ⊥ = cc in bad
+not_listed false e = let bad : ⊥ = cc in bad
 
 refused_is : (left : Image → Type 0) (told : Bool) (moment : ℕ) (why : OpenError) (first : Place) (faults : ℕ) → first.store.faults ≤ faults → (why ≢ Fault → faults ≡ first.store.faults)
     → (why ≡ Fault → Raised first.store.faults faults) → ((file at : ℕ) → why ≡ NotStore file at → told ≡ false)
-    → IsReopened told left moment first (reopened_reply (Err why)) (closed_at first faults)
+    → IsReopened told left moment first (reopened_reply (Err why)) (closed_at first why faults)
 refused_is left told moment Fault first faults later quiet rose no_store = (tt, (refl, later, rose refl), refl)
 refused_is left told moment (NotStore file at) first faults later quiet rose no_store = (no_store file at refl, (refl, later, quiet (λ e. let bad : ⊥ = cc in bad)), refl)
 refused_is left told moment Memory first faults later quiet rose no_store = (tt, (refl, later, quiet (λ e. let bad : ⊥ = cc in bad)), refl)
@@ -92,7 +110,7 @@ module _ {D : Type 0} (g : Ghosts D) where
       let core = opened.0 in
       let m = opened.2.begins in
       let has = m.1.shows.state.has in
-      let last : Place = record { store = at_core g core m.0; is_open = true; unsure = None; pending = ever_unsure first } in (
+      let last : Place = record { store = at_core g core m.0; is_open = true; is_listed = true; unsure = None; pending = ever_unsure first } in (
         last,
         subst (λ (x : Store D). IsShownAt g x last) (sym opened.1) (record { faults = refl; shows = (refl, m.1.shows) }),
         (
@@ -111,8 +129,8 @@ module _ {D : Type 0} (g : Ghosts D) where
       let later = again.closed.0 in
       let before : first.store.faults ≡ g.faults (disk_of old) = ap (λ (at : At). at.faults) shown.faults in
       let counts = subst (λ (x : Store D). Reopens g (disk_of old) moment x (Err why)) again.closed.1 again in (
-        closed_at first (g.faults later),
-        subst (λ (x : Store D). IsShownAt g x (closed_at first (g.faults later))) (sym again.closed.1) (record { faults = refl; shows = refl }),
+        closed_at first why (g.faults later),
+        subst (λ (x : Store D). IsShownAt g x (closed_at first why (g.faults later))) (sym again.closed.1) (record { faults = refl; shows = refl }),
         refused_is (λ image. ⊤) false moment why first (g.faults later)
             (subst (λ (n : ℕ). n ≤ g.faults later) (sym before) counts.counts.later)
             (λ not. counts.counts.quiet (λ e. not (err_is why (Err why) refl e)) ∙ sym before)
@@ -153,11 +171,23 @@ module _ {D : Type 0} (g : Ghosts D) where
   sound_of h (Some entry) image (inl one) = (h, one)
   sound_of h (Some entry) image (inr other) = (grown h (entry ∷ []), other)
 
-  -- An open store that writes lists its state.
-  pub store_lists : (store : Store D) (place : Place) → StandsForPlace g store place → IsTrue (g.tells (disk_of store)) → place.is_open ≡ true → place.store.machine.read_only ≡ None
-      → (image : Image) → g.may_leave (disk_of store) image → ListsState image place.store.machine.state
-  store_lists (Open core) place stands tells is_open writes = lists_state g core place.store.machine stands.2 tells writes
-  store_lists (Closed disk) place stands tells is_open writes = let bad : ⊥ = cc in absurd bad
+  -- The disk of a store that writes, or wrote to its end, lists its state.
+  pub store_lists : (store : Store D) (place : Place) → StandsForPlace g store place → IsTrue (g.tells (disk_of store)) → place.is_listed ≡ true → place.store.machine.read_only ≡ None
+      → DiskLists g (disk_of store) place.store.machine.state
+  store_lists (Open core) place stands tells is_listed writes = lists_state g core place.store.machine stands.2 tells writes
+  store_lists (Closed disk) place stands tells is_listed writes = stands.1 tells is_listed writes
+
+  -- So does what a refused opening leaves in which no call of the disk failed.
+  still_listed : (disk later : D) (why : OpenError) (first : Place) → (why ≢ Fault → LeavesAlone g disk later)
+      → (first.is_listed ≡ true → first.store.machine.read_only ≡ None → DiskLists g disk first.store.machine.state)
+      → (closed_at first why (g.faults later)).is_listed ≡ true → first.store.machine.read_only ≡ None → DiskLists g later first.store.machine.state
+  still_listed disk later Fault first left before listed writes image may = absurd (not_listed first.is_listed listed)
+  still_listed disk later (NotStore file at) first left before listed writes image may =
+      let was = (left (λ e. let bad : ⊥ = cc in bad)).images.now image may in
+      lists_kept was.0 image first.store.machine.state was.2 (before (listed_still first.is_listed listed) writes was.0 was.1)
+  still_listed disk later Memory first left before listed writes image may =
+      let was = (left (λ e. let bad : ⊥ = cc in bad)).images.now image may in
+      lists_kept was.0 image first.store.machine.state was.2 (before (listed_still first.is_listed listed) writes was.0 was.1)
 
   module _ (held_may_stay : (disk : D) → IsTrue (g.tells disk) → g.may_leave disk (g.held disk)) (start : D) (least : ℕ) where
     reopened_kept : (left : Image → Type 0) (moment : ℕ) (old new : Store D) (first : Place) (result : Result ℕ OpenError) → left (g.held (disk_of old))
@@ -171,7 +201,7 @@ module _ {D : Type 0} (g : Ghosts D) where
         let on : GoesOn g disk moment core (history_at first) first.unsure =
         goes_on g held_may_stay disk core (history_at first) first.unsure moment tells kept.keeps.now opened.2 in
         let has = on.stands.stands.has in
-        let last : Place = record { store = at_core g core on.machine; is_open = true; unsure = None; pending = ever_unsure first } in (
+        let last : Place = record { store = at_core g core on.machine; is_open = true; is_listed = true; unsure = None; pending = ever_unsure first } in (
           last,
           subst (λ (x : Store D). IsKeptAt g start least x last) (sym opened.1) (record {
             faults = refl;
@@ -191,7 +221,7 @@ module _ {D : Type 0} (g : Ghosts D) where
                 possible = may;
                 stands = on.stored;
                 begins = on.begins;
-                listed = λ is_open writes. store_lists old first kept.stands tells is_open writes (g.held disk) (held_may_stay disk tells);
+                listed = λ is_listed writes. store_lists old first kept.stands tells is_listed writes (g.held disk) (held_may_stay disk tells);
               };
             },
             refl,
@@ -202,11 +232,11 @@ module _ {D : Type 0} (g : Ghosts D) where
         let disk = disk_of old in
         let before : first.store.faults ≡ g.faults disk = ap (λ (at : At). at.faults) kept.faults in
         let so = subst (λ (x : Store D). Reopens g disk moment x (Err why)) again.closed.1 again in
-        let last = closed_at first (g.faults later) in (
+        let last = closed_at first why (g.faults later) in (
           last,
           subst (λ (x : Store D). IsKeptAt g start least x last) (sym again.closed.1) (record {
             faults = refl;
-            stands = refl;
+            stands = (refl, λ later_tells listed writes. still_listed disk later why first (so.left tells) (store_lists old first kept.stands tells) listed writes);
             keeps = still_closed g start disk later least first.pending (history_at first) first.unsure kept.keeps so.counts.telling so.kept;
           }),
           refused_is left true moment why first (g.faults later)
@@ -248,7 +278,7 @@ module _ {D : Type 0} (g : Ghosts D) where
       first,
       subst (λ (x : Store D). IsKeptAt g start least x first) (sym is) kept,
       subst (λ (x : Store D). IsTrue (g.tells (disk_of x))) (sym is) tells,
-      (kept.stands, told, refl),
+      (kept.stands.0, told, refl),
     )
 
     -- at each line, where what the disk holds then is one of these images

@@ -1,5 +1,5 @@
 -- What is done in a session, line by line: something is asked, or its store is closed and opened again.
-use Rattle.std.specs.Prelude.{Bool, true, false, ◌≡◌, ⊤, ℕ, ◌≤◌, List, None}
+use Rattle.std.specs.Prelude.{Bool, true, false, not, ◌&&◌, ◌≡◌, ⊤, ℕ, ◌≤◌, List, None}
 use Rattle.disk_model.specs.Images.{Image}
 use Rattle.session_text.specs.declared.refusal.Refusal.{Refusal}
 use Rattle.session_text.specs.declared.refusal.Refusal.TheVariants.{Closed, DiskFault, Memory, NotStore}
@@ -23,14 +23,15 @@ use Rattle.session_meaning.specs.Session.{IsAnsweredOrRefused}
 -- ---- a reopening
 
 -- An opening finds all that was kept: the history, or that and then the entry that wasn't sure. The store begins as one that is opened
--- at this moment on an image that stands for it, one of these. If the store was open and wrote until then, the image lists its state.
+-- at this moment on an image that stands for it, one of these. If the store wrote until then, and no opening failed in a call of the disk
+-- since, the image lists its state.
 pub record FindsAgain (left : Image → Type 0) (moment : ℕ) (before : Place) (after : At) : Type 0 where
   pub history : MayHaveAdded before.unsure (history_at before) (history_of after)
   pub image : Image
   pub possible : left image
   pub stands : ImageStandsFor image (history_of after)
   pub begins : BeginsAs image moment after.machine
-  pub listed : before.is_open ≡ true → before.store.machine.read_only ≡ None → ListsState image before.store.machine.state
+  pub listed : before.is_listed ≡ true → before.store.machine.read_only ≡ None → ListsState image before.store.machine.state
 
 -- The store is opened again, with so many entries. It writes, its head is empty, no file is loose and no pin is open; and no call of the
 -- disk failed. What it finds is said where what the disk holds is told, which is what `told` says.
@@ -55,10 +56,10 @@ HasOpeningCause told _ = ⊥
 abbrev pub IsReopened : Bool → (Image → Type 0) → ℕ → Place → Reply → Place → Type 0
 IsReopened told left moment before (Reopened entries) after =
     IsOpenedAgain told left moment before entries after.store
-    × (after ≡ record { store = after.store; is_open = true; unsure = None; pending = ever_unsure before })
+    × (after ≡ record { store = after.store; is_open = true; is_listed = true; unsure = None; pending = ever_unsure before })
 IsReopened told left moment before (Refused why) after =
     HasOpeningCause told why × IsUnchanged (is_disk_fault why) before.store after.store
-    × (after ≡ record before { store = after.store; is_open = false })
+    × (after ≡ record before { store = after.store; is_open = false; is_listed = before.is_listed && not (is_disk_fault why) })
 IsReopened told left moment before _ after = ⊥
 
 -- ---- a line

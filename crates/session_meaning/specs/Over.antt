@@ -1,9 +1,11 @@
 -- What is done over a store that is open or closed: how the program does it. A law says that this is what a session means.
-use Rattle.std.specs.Prelude.{◌≡◌, true, false, ℕ, List, Result, Ok, Err}
+use Rattle.std.specs.Prelude.{◌≡◌, true, false, ℕ, List, None, Result, Ok, Err, IsTrue}
+use Rattle.disk_model.specs.Images.{Image}
 use Rattle.disk_model.specs.declared.disk.Device.{Ghosts}
 use Rattle.session_text.specs.declared.refusal.Refusal.TheVariants as refusal
 use Rattle.session_text.specs.declared.reply.Reply.{Reply}
 use Rattle.session_text.specs.declared.reply.Reply.TheVariants.{Refused, Reopened}
+use Rattle.store_model.specs.State.{State}
 use Rattle.store_core.specs.Cores.{CoreShows, CoreStandsFor, unsure_of}
 use Rattle.store_core.specs.Port.{port_of}
 use Rattle.store_core.specs.declared.error.OpenError.{OpenError}
@@ -16,6 +18,7 @@ use Rattle.store_reopen.specs.declared.store.Store.TheVariants.{Closed, Open}
 use Rattle.session_meaning.specs.Act.{Act}
 use Rattle.session_meaning.specs.Act.Act.{Ask, Reopen, Unread}
 use Rattle.session_meaning.specs.InOrder.{InOrder}
+use Rattle.session_meaning.specs.Listed.{ListsState}
 use Rattle.session_meaning.specs.Place.{Place, history_at}
 use Rattle.session_meaning.specs.Progress.{HasAnsweredOne}
 
@@ -46,10 +49,17 @@ abbrev pub ShowsPlace : {D : Type 0} → Ghosts D → Store D → Place → Type
 ShowsPlace g (Open core) place = (place.is_open ≡ true) × CoreShows g core place.store.machine
 ShowsPlace g (Closed disk) place = place.is_open ≡ false
 
--- Where the disk tells its bytes an open one stands for the place's machine.
+-- Whatever a crash may leave of the disk now lists the state.
+abbrev pub DiskLists : {D : Type 0} → Ghosts D → D → State → Type 0
+DiskLists g disk u = (image : Image) → g.may_leave disk image → ListsState image u
+
+-- Where the disk tells its bytes an open one stands for the place's machine, and the disk of a closed one lists the place's state, if
+-- the store wrote to its end and no opening failed in a call of the disk since.
 abbrev pub StandsForPlace : {D : Type 0} → Ghosts D → Store D → Place → Type 0
 StandsForPlace g (Open core) place = (place.is_open ≡ true) × (place.unsure ≡ unsure_of core.state) × CoreStandsFor g core place.store.machine
-StandsForPlace g (Closed disk) place = place.is_open ≡ false
+StandsForPlace g (Closed disk) place =
+    (place.is_open ≡ false)
+    × (IsTrue (g.tells disk) → place.is_listed ≡ true → place.store.machine.read_only ≡ None → DiskLists g disk place.store.machine.state)
 
 -- The place counts the faults of the store's disk.
 abbrev pub CountsFaults : {D : Type 0} → Ghosts D → Store D → Place → Type 0

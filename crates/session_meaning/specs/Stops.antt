@@ -80,14 +80,14 @@ LeavesUnopened g disk later o = o.opened ≡ false → o.ending ≢ NotOpened �
 
 -- A run over a disk that shows its bytes, which were a store's. Where the store was opened the run begins with what they store,
 -- and each image that a crash may leave of the disk that is handed back stands for that and all pushes that were accepted, or for that
--- and then the entry that isn't sure. If the store is open at the end and writes, each such image lists its last state: what upkeep was
--- told to have done stands on the disk. Each image that a crash may have left at any moment of the run keeps what one could have left at
+-- and then the entry that isn't sure. If the store wrote to its end, and no opening failed in a call of the disk since it was last open,
+-- each such image lists its last state: what upkeep was told to have done stands on the disk. Each image that a crash may have left at any moment of the run keeps what one could have left at
 -- its start; or it stands for that with the first few of these pushes, and it may be with one that wasn't sure. And it is tidy where all
 -- were at the start. Where the run opened its store again, it began on an image that a crash may have left since the start.
 pub record Recovers {D : Type 0} (g : Ghosts D) (disk later : D) (o : Outcome) : Type 0 where
   pub begins : IsTrue o.opened → Begins (g.held disk) o.moment o.first
   pub returned : IsTrue o.opened → Returns (g.may_leave later) o
-  pub kept_up : IsTrue o.opened → o.last.is_open ≡ true → o.last.store.machine.read_only ≡ None → ListsLast (g.may_leave later) o
+  pub kept_up : IsTrue o.opened → o.last.is_listed ≡ true → o.last.store.machine.read_only ≡ None → ListsLast (g.may_leave later) o
   pub unopened : LeavesUnopened g disk later o
   pub any_moment : Leaves (g.may_leave disk) (g.left_since later (g.moment disk)) o
   pub tidy : AreTidy (g.may_leave disk) → AreTidy (g.left_since later (g.moment disk))

@@ -21,7 +21,7 @@ entries_of core = core.state.segment.first + core.state.segment.count
 
 -- A disk is opened again, or not. Opened, the store is one that was opened on this disk; else it is closed. In either case, whenever
 -- a crash comes, what was stored is kept. Refused for another cause than a fault, all bytes are left as they were; and it is
--- refused for its bytes where they break, and never if they were a store's. It is refused for a fault just where a call
+-- refused for its bytes just where they break, and so never if they were a store's. It is refused for a fault just where a call
 -- of the disk failed.
 pub record Reopens {D : Type 0} (g : Ghosts D) (disk : D) (moment : ℕ) (store : Store D) (result : Result ℕ OpenError) : Type 0 where
   pub opened : IfOk result (λ entries. (core : Core D) × (store ≡ Open core) × Opened g disk moment core × (entries ≡ entries_of core))
@@ -29,5 +29,6 @@ pub record Reopens {D : Type 0} (g : Ghosts D) (disk : D) (moment : ℕ) (store 
   pub kept : KeepsDisk g disk (disk_of store)
   pub left : IfErr result (λ why. IsTrue (g.tells disk) → why ≢ Fault → LeavesAlone g disk (disk_of store))
   pub breaks : IfErr result (λ why. IsTrue (g.tells disk) → (file at : ℕ) → why ≡ NotStore file at → StoreBreaks (g.held disk) file at)
+  pub unbroken : IfOk result (λ entries. IsTrue (g.tells disk) → (file at : ℕ) → StoreBreaks (g.held disk) file at → ⊥)
   pub sound : IfErr result (λ why. IsTrue (g.tells disk) → IsSoundImage (g.held disk) → (file at : ℕ) → why ≢ NotStore file at)
   pub counts : Counts g 0 (result ≢ Err Fault) (result ≡ Err Fault) disk (disk_of store)

@@ -1,5 +1,5 @@
 -- What a run came to in a store that was opened, and what it left of it.
-use Rattle.std.proofs.Common.{Bool, ◌≡◌, inl, inr, ⊎_elim, ℕ, ◌≤◌, List, [], ◌∷◌, map, Option, Some, None, Result, Ok, Err, true, IsTrue, refl, sym, ◌∙◌, ap, subst}
+use Rattle.std.proofs.Common.{Bool, ◌≡◌, inl, inr, ⊎_elim, ℕ, ◌≤◌, List, [], ◌∷◌, map, Option, Some, None, Result, Ok, Err, true, false, IsTrue, refl, sym, ◌∙◌, ap, subst}
 use Rattle.std.specs.Prelude.{IfSome}
 use Rattle.command_words.specs.Commands.{Alone, Command, Drill as drill, Ingest as ingest, Session as session}
 use Rattle.disk_model.specs.Crash.{Reached}
@@ -44,7 +44,7 @@ use Rattle.session_meaning.proofs.CoreSessions.{StandsThrough, shown_ingests, sh
 use Rattle.session_meaning.proofs.StoreSessions.{acts_left, acts_shown, acts_tidy, asks_among, asks_over, store_lists}
 use Rattle.session_meaning.proofs.Unsure.{items_unsure}
 use Rattle.trace_shell.specs.Turn.{CameByLines, CameOver, CameTo, HasDone, IsHeld}
-use Rattle.trace_shell.proofs.RunLemmas.{if_told, in_store, past_is_no_fault}
+use Rattle.trace_shell.proofs.RunLemmas.{if_told, in_store, only_asks, past_is_no_fault}
 
 -- nothing is open in a core whose memory shows a machine
 pub holds_nothing : {D : Type 0} (g : Ghosts D) (core : Core D) (m : Machine) → CoreShows g core m → CoreHolds (shown_by g) core []
@@ -88,7 +88,7 @@ done_over {D} g (Alone line) core store old_left old_taken told left taken to_te
 
 -- where a session stands that was asked this of an open store
 abbrev pub asked_place : {D : Type 0} → Ghosts D → Core D → Machine → List Item → List Reply → Place
-asked_place g core m items replies = record { store = at_core g core m; is_open = true; unsure = unsure_after_all None items replies; pending = [] }
+asked_place g core m items replies = record { store = at_core g core m; is_open = true; is_listed = true; unsure = unsure_after_all None items replies; pending = [] }
 
 -- What a command other than a session came to over a core, by machines that go with it.
 pub record CameAsked {D : Type 0} (g : Ghosts D) (is_with : Core D → Machine → Type 0) (sure : Bool) (c : Command) (core : Core D) (store : Store D) (m : Machine)
@@ -126,7 +126,7 @@ module _ {D : Type 0} (g : Ghosts D) (is_with : Core D → Machine → Type 0) (
         over = over;
         machine = run.0;
         stands = run.1;
-        done = as_acts acts items replies (asked_place g later run.0 items replies) acts_are (session_asks sure items replies (at_core g core m) (at_core g later run.0) None [] run.2);
+        done = as_acts acts items replies (asked_place g later run.0 items replies) acts_are (session_asks sure items replies (at_core g core m) (at_core g later run.0) true None [] run.2);
         came = (items, acts_are, none, λ text before source. absurd (none_is_some text source));
       }
   asked_ingest (Some text) None told left taken to_tell e acts replies blamed (later, is, items, acts_are, over, none, by) =
@@ -138,7 +138,7 @@ module _ {D : Type 0} (g : Ghosts D) (is_with : Core D → Machine → Type 0) (
         over = over;
         machine = run.0;
         stands = run.1;
-        done = as_acts acts items replies (asked_place g later run.0 items replies) acts_are (session_asks sure items replies (at_core g core m) (at_core g later run.0) None [] run.2);
+        done = as_acts acts items replies (asked_place g later run.0 items replies) acts_are (session_asks sure items replies (at_core g core m) (at_core g later run.0) true None [] run.2);
         came = (items, acts_are, none, λ all before source sink. absurd (none_is_some before sink));
       }
   asked_ingest (Some text) (Some before) told left taken to_tell e acts replies blamed (later, is, items, acts_are, over, none, by) =
@@ -162,7 +162,7 @@ module _ {D : Type 0} (g : Ghosts D) (is_with : Core D → Machine → Type 0) (
         over = over;
         machine = run.0;
         stands = run.1;
-        done = as_acts acts items replies (asked_place g later run.0 items replies) acts_are (session_asks sure items replies (at_core g core m) (at_core g later run.0) None [] all);
+        done = as_acts acts items replies (asked_place g later run.0 items replies) acts_are (session_asks sure items replies (at_core g core m) (at_core g later run.0) true None [] all);
         came = (
           items,
           acts_are,
@@ -203,7 +203,7 @@ module _ {D : Type 0} (g : Ghosts D) (is_with : Core D → Machine → Type 0) (
         over = all;
         machine = run.0;
         stands = run.1;
-        done = as_acts acts items replies (asked_place g later run.0 items replies) acts_are (session_asks sure items replies (at_core g core m) (at_core g later run.0) None [] run.2);
+        done = as_acts acts items replies (asked_place g later run.0 items replies) acts_are (session_asks sure items replies (at_core g core m) (at_core g later run.0) true None [] run.2);
         came = (item, reply, acts_are, replies_are, own, asks, clock, ends);
       }
 
@@ -327,6 +327,7 @@ module _ {D : Type 0} (g : Ghosts D) (disk : D) (moment : ℕ) (core : Core D) (
       past,
       in_store sure c outcome old new came,
     );
+    asks = only_asks sure c outcome.first last old.left old.taken (after_moment old.moments) new.left new.taken new.moments e acts replies blamed came;
     session = all;
     cause = cause;
     asked = past_is_no_fault e past;
@@ -345,7 +346,7 @@ module _ {D : Type 0} (g : Ghosts D) (disk : D) (moment : ℕ) (core : Core D) (
         let stored = founded.stored told in record {
           begins = λ opened. record { stored = stored.0; once = opens.once; base_alone = opens.base_alone; begins = stored.1 };
           returned = λ opened. kept_at_end.keeps.now told_later;
-          kept_up = λ opened is_open writes. store_lists g store last kept_at_end.stands told_later is_open writes;
+          kept_up = λ opened is_listed writes. store_lists g store last kept_at_end.stands told_later is_listed writes;
           unopened = λ closed. let bad : true ≡ false = closed in cc;
           found = λ opened. found;
           any_moment = λ image left.

@@ -1,9 +1,12 @@
-use Rattle.std.proofs.Common.{sym, ◌∙◌}
-use Rattle.serde_json.specs.View.{view}
-use Rattle.otlp_spans.proofs.AloneLemmas.{only_entry}
+use Rattle.std.proofs.Common.{List, ap, ◌∙◌}
+use Rattle.serde_json.specs.Data.{object}
+use Rattle.serde_json.specs.View.{members_view, view}
+use Rattle.serde_json.proofs.Views.{Entry, view-Object}
+use Rattle.serde_json.specs.declared.value.Value.{Value}
 use Rattle.otlp_spans.proofs.attributes.alone.Goals as goal
 
-pub returns : goal.returns
-returns c =
-    only_entry c.in_ok-object.object.now.entries c.in_ok-name.name.now c.in_ok-name.value.now _ (view c.args.value.now) (sym c.len.ensures.len ∙ c.if-len-ne1.false) c.in_ok-name.ensures.first
-    c.as_str.ensures.value c.in_ok-object.ensures
+pub returns-in-Ok-clause-one : goal.returns-in-Ok-clause-one
+returns-in-Ok-clause-one c =
+    ap view c.in-Object.is
+    ∙ view-Object c.in-Object.members
+    ∙ ap (λ (es : List Entry). object (members_view es)) c.in-Ok.ensures.one

@@ -1,4 +1,4 @@
-use Rattle.std.proofs.Common.{◌≡◌, ◌++◌, ◌+◌, drop, map, min}
+use Rattle.std.proofs.Common.{◌≡◌, ◌++◌, ◌+◌, length, map, min}
 use Rattle.std.specs.List.{filter_map}
 use Rattle.serde_json.specs.View.{view}
 use Rattle.otlp_spans.specs.Attributes.{skipped_by}
@@ -8,9 +8,11 @@ use Rattle.otlp_spans.specs.Reading.{last64}
 use Rattle.otlp_spans.proofs.lists.kept_of.Given as goal
 
 -- what was kept and skipped, and what is of the rest; so far nothing was wrong
-abbrev pub invariant-loop-i : goal.invariant-loop-i
-invariant-loop-i g l =
+abbrev pub invariant-loop-value : goal.invariant-loop-value
+invariant-loop-value g l =
     let t = g.T.ListItem in
-    (filter_map t.of (map view l.values) ≡ l.items.items ++ filter_map t.of (map view (drop l.i l.values)))
-    × (min (total (skipped_by t.of t.inside) (map view l.values)) last64 ≡ min (l.skipped + total (skipped_by t.of t.inside) (map view (drop l.i l.values))) last64)
-    × (first_in_items (first_wrong t.form) 0 (map view l.values) ≡ first_in_items (first_wrong t.form) l.i (map view (drop l.i l.values)))
+    let rest = l.value-iterator.rest.items in
+    (filter_map t.of (map view l.fn.values.items) ≡ l.items.items ++ filter_map t.of (map view rest))
+    × (min (total (skipped_by t.of t.inside) (map view l.fn.values.items)) last64 ≡ min (l.skipped + total (skipped_by t.of t.inside) (map view rest)) last64)
+    × (first_in_items (first_wrong t.form) 0 (map view l.fn.values.items) ≡ first_in_items (first_wrong t.form) l.i (map view rest))
+    × (length l.fn.values.items ≡ l.i + length rest)

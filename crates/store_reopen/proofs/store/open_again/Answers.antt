@@ -8,6 +8,7 @@ returns-in-Ok g c = record {
   kept = c.in-Ok.ensures.kept;
   left = tt;
   breaks = tt;
+  unbroken = c.in-Ok.ensures.unbroken;
   sound = tt;
   counts = record {
     time = c.in-Ok.ensures.calls.time;
