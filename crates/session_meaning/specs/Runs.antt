@@ -211,6 +211,7 @@ Does told c o old new =
 abbrev pub OnlyAsks : Command → List Act → Type 0
 OnlyAsks session acts = ⊤
 OnlyAsks ingest acts = (items : List Item) × (acts ≡ map Ask items)
+OnlyAsks (drill seed traces) acts = (items : List Item) × (acts ≡ map Ask items)
 OnlyAsks (Alone line) acts = (items : List Item) × (acts ≡ map Ask items)
 
 -- ---- how a run may end

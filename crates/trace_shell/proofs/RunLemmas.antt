@@ -131,6 +131,7 @@ pub only_asks : (sure : Bool) (c : Command) (first : At) (last : Place) (old_lef
     → CameTo sure c first last old_left old_taken told left taken to_tell e acts replies blamed → OnlyAsks c acts
 only_asks sure session first last old_left old_taken told left taken to_tell e acts replies blamed came = tt
 only_asks sure ingest first last old_left old_taken told left taken to_tell e acts replies blamed came = (came.0, came.1)
+only_asks sure (drill seed traces) first last old_left old_taken told left taken to_tell e acts replies blamed came = (came.0, came.1)
 only_asks sure (Alone line) first last old_left old_taken told left taken to_tell e acts replies blamed came = (came.0 ∷ [], came.2)
 
 -- ---- in none
@@ -147,6 +148,7 @@ unopened e = record { ending = e; opened = false; moment = 0; first = nowhere; a
 none_asked : (c : Command) → OnlyAsks c []
 none_asked session = tt
 none_asked ingest = ([], refl)
+none_asked (drill seed traces) = ([], refl)
 none_asked (Alone line) = ([], refl)
 
 no_truth : IsTrue false → ⊥

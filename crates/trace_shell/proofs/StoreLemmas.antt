@@ -185,7 +185,7 @@ module _ {D : Type 0} (g : Ghosts D) (is_with : Core D → Machine → Type 0) (
         over = over;
         machine = run.0;
         stands = run.1;
-        done = as_acts acts items replies (asked_place g later run.0 items replies) acts_are (session_asks sure items replies (at_core g core m) (at_core g later run.0) None [] run.2);
+        done = as_acts acts items replies (asked_place g later run.0 items replies) acts_are (session_asks sure items replies (at_core g core m) (at_core g later run.0) true None [] run.2);
         came = (items, acts_are, same_left, came);
       }
 
