@@ -59,36 +59,42 @@ none_added e (told.Looked look) none = refl
 none_added e (told.Page bytes) none = refl
 none_added e (told.Refused why) none = refl
 
--- the row goes on behind an event that adds nothing
-past : (e : Event) (r : StepReply) (h h' : History) (ns : List ℕ) → asked_entry e ≡ None → h' ≡ history_after e r h → AreInARow (count_of h') ns → AreInARow (count_of h) ns
-past e r h h' ns none after row = subst (λ (g : History). AreInARow (count_of g) ns) (after ∙ ap (λ (o : Option Added). with_entry o h) (none_added e r none)) row
+-- what adds nothing leaves the row as it is
+stays : (h h' : History) (ns : List ℕ) → h' ≡ h → AreInARow (count_of h') ns → AreInARow (count_of h) ns
+stays h h' ns same row = subst (λ (g : History). AreInARow (count_of g) ns) same row
 
+-- so does an event that is no push
+no_push : (e : Event) (r : StepReply) (h h' : History) (ns : List ℕ) → asked_entry e ≡ None → h' ≡ history_after e r h → AreInARow (count_of h') ns → AreInARow (count_of h) ns
+no_push e r h h' ns none after row = stays h h' ns (after ∙ ap (λ (o : Option Added). with_entry o h) (none_added e r none)) row
+
+-- the number that an event gives goes before the row of those after it
 goes_on : (e : Event) (r : StepReply) (h h' : History) (ns : List ℕ) → h' ≡ history_after e r h → TellsLength e r h → AreInARow (count_of h') ns
     → AreInARow (count_of h) (given_by e r ++ ns)
 goes_on (event.Push spans moment) (told.Count n) h h' ns after tells row =
     (tells, subst (λ (k : ℕ). AreInARow k ns) (ap count_of after ∙ grown_count h (push_of spans ∷ [])) row)
-goes_on (event.Push spans moment) told.Fine h h' ns after tells row = subst (λ (g : History). AreInARow (count_of g) ns) after row
-goes_on (event.Push spans moment) told.Nothing h h' ns after tells row = subst (λ (g : History). AreInARow (count_of g) ns) after row
-goes_on (event.Push spans moment) (told.Flushing job) h h' ns after tells row = subst (λ (g : History). AreInARow (count_of g) ns) after row
-goes_on (event.Push spans moment) (told.Compacting job) h h' ns after tells row = subst (λ (g : History). AreInARow (count_of g) ns) after row
-goes_on (event.Push spans moment) (told.Looked look) h h' ns after tells row = subst (λ (g : History). AreInARow (count_of g) ns) after row
-goes_on (event.Push spans moment) (told.Page bytes) h h' ns after tells row = subst (λ (g : History). AreInARow (count_of g) ns) after row
-goes_on (event.Push spans moment) (told.Refused why) h h' ns after tells row = subst (λ (g : History). AreInARow (count_of g) ns) after row
-goes_on (event.Cut moment) r h h' ns after tells row = past (event.Cut moment) r h h' ns refl after row
-goes_on event.CutAll r h h' ns after tells row = past event.CutAll r h h' ns refl after row
-goes_on event.Held r h h' ns after tells row = past event.Held r h h' ns refl after row
-goes_on event.BeginFlush r h h' ns after tells row = past event.BeginFlush r h h' ns refl after row
-goes_on event.BeginCompact r h h' ns after tells row = past event.BeginCompact r h h' ns refl after row
-goes_on (event.WritePiece job file bytes) r h h' ns after tells row = past (event.WritePiece job file bytes) r h h' ns refl after row
-goes_on (event.CommitFlush job size) r h h' ns after tells row = past (event.CommitFlush job size) r h h' ns refl after row
-goes_on (event.CommitCompact job size) r h h' ns after tells row = past (event.CommitCompact job size) r h h' ns refl after row
-goes_on (event.DropFlush job) r h h' ns after tells row = past (event.DropFlush job) r h h' ns refl after row
-goes_on (event.DropCompact job) r h h' ns after tells row = past (event.DropCompact job) r h h' ns refl after row
-goes_on event.Look r h h' ns after tells row = past event.Look r h h' ns refl after row
-goes_on (event.ReadPage pin block page) r h h' ns after tells row = past (event.ReadPage pin block page) r h h' ns refl after row
-goes_on (event.Done pin) r h h' ns after tells row = past (event.Done pin) r h h' ns refl after row
-goes_on event.Reclaim r h h' ns after tells row = past event.Reclaim r h h' ns refl after row
+goes_on (event.Push spans moment) told.Fine h h' ns after tells row = stays h h' ns after row
+goes_on (event.Push spans moment) told.Nothing h h' ns after tells row = stays h h' ns after row
+goes_on (event.Push spans moment) (told.Flushing job) h h' ns after tells row = stays h h' ns after row
+goes_on (event.Push spans moment) (told.Compacting job) h h' ns after tells row = stays h h' ns after row
+goes_on (event.Push spans moment) (told.Looked look) h h' ns after tells row = stays h h' ns after row
+goes_on (event.Push spans moment) (told.Page bytes) h h' ns after tells row = stays h h' ns after row
+goes_on (event.Push spans moment) (told.Refused why) h h' ns after tells row = stays h h' ns after row
+goes_on (event.Cut moment) r h h' ns after tells row = no_push (event.Cut moment) r h h' ns refl after row
+goes_on event.CutAll r h h' ns after tells row = no_push event.CutAll r h h' ns refl after row
+goes_on event.Held r h h' ns after tells row = no_push event.Held r h h' ns refl after row
+goes_on event.BeginFlush r h h' ns after tells row = no_push event.BeginFlush r h h' ns refl after row
+goes_on event.BeginCompact r h h' ns after tells row = no_push event.BeginCompact r h h' ns refl after row
+goes_on (event.WritePiece job file bytes) r h h' ns after tells row = no_push (event.WritePiece job file bytes) r h h' ns refl after row
+goes_on (event.CommitFlush job size) r h h' ns after tells row = no_push (event.CommitFlush job size) r h h' ns refl after row
+goes_on (event.CommitCompact job size) r h h' ns after tells row = no_push (event.CommitCompact job size) r h h' ns refl after row
+goes_on (event.DropFlush job) r h h' ns after tells row = no_push (event.DropFlush job) r h h' ns refl after row
+goes_on (event.DropCompact job) r h h' ns after tells row = no_push (event.DropCompact job) r h h' ns refl after row
+goes_on event.Look r h h' ns after tells row = no_push event.Look r h h' ns refl after row
+goes_on (event.ReadPage pin block page) r h h' ns after tells row = no_push (event.ReadPage pin block page) r h h' ns refl after row
+goes_on (event.Done pin) r h h' ns after tells row = no_push (event.Done pin) r h h' ns refl after row
+goes_on event.Reclaim r h h' ns after tells row = no_push event.Reclaim r h h' ns refl after row
 
+-- the numbers that legal calls give are in a row from the length of the history on
 legally_in_a_row : (before after : ℕ) (m m' : Machine) (es : List Entry) → Legal before m es after m' → AreInARow (count_of m.history) (given_numbers (map call_of es))
 legally_in_a_row before after m m' [] legal = tt
 legally_in_a_row before after m m' (e ∷ es) legal =
@@ -105,38 +111,38 @@ given_append (c ∷ front) back =
 both_none : (front back : List Call) → given_numbers front ≡ [] → given_numbers back ≡ [] → given_numbers (front ++ back) ≡ []
 both_none front back first second = given_append front back ∙ (ap (λ (ns : List ℕ). ns ++ given_numbers back) first ∙ second)
 
-flush_gives_none : (at : Stage) (calls : List Call) (r : Round) → Leads at calls r → given_numbers calls ≡ []
-flush_gives_none at calls r leads.nothing = refl
-flush_gives_none at calls r (leads.no_job why) = refl
-flush_gives_none at calls r (leads.job {calls = cs} {round = last} number file rows rest) = flush_gives_none (stage.Begun number file rows) cs last rest
-flush_gives_none at calls r (leads.starved number file rows) = refl
-flush_gives_none at calls r (leads.built {calls = cs} {round = last} number file rows bytes info block rest) = flush_gives_none (stage.Writing number file bytes info.rows) cs last rest
-flush_gives_none at calls r (leads.written {calls = cs} {round = last} number file bytes size some rest) = flush_gives_none (stage.Writing number file (drop 65536 bytes) size) cs last rest
-flush_gives_none at calls r (leads.unwritten {calls = cs} {round = last} number file bytes size why some rest) = flush_gives_none (stage.Failing number (write_cause why)) cs last rest
-flush_gives_none at calls r (leads.listed number file size) = refl
-flush_gives_none at calls r (leads.unlisted number file size why) = refl
-flush_gives_none at calls r (leads.dropped number why) = refl
-flush_gives_none at calls r (leads.over last) = refl
+flush_gives_none : {calls : List Call} {r : Round} (at : Stage) → Leads at calls r → given_numbers calls ≡ []
+flush_gives_none at leads.nothing = refl
+flush_gives_none at (leads.no_job why) = refl
+flush_gives_none at (leads.job number file rows rest) = flush_gives_none (stage.Begun number file rows) rest
+flush_gives_none at (leads.starved number file rows) = refl
+flush_gives_none at (leads.built number file rows bytes info block rest) = flush_gives_none (stage.Writing number file bytes info.rows) rest
+flush_gives_none at (leads.written number file bytes size some rest) = flush_gives_none (stage.Writing number file (drop 65536 bytes) size) rest
+flush_gives_none at (leads.unwritten number file bytes size why some rest) = flush_gives_none (stage.Failing number (write_cause why)) rest
+flush_gives_none at (leads.listed number file size) = refl
+flush_gives_none at (leads.unlisted number file size why) = refl
+flush_gives_none at (leads.dropped number why) = refl
+flush_gives_none at (leads.over last) = refl
 
-compact_gives_none : (at : CompactStage) (calls : List Call) (r : Round) → CompactLeads at calls r → given_numbers calls ≡ []
-compact_gives_none at calls r joins.nothing = refl
-compact_gives_none at calls r (joins.no_job why) = refl
-compact_gives_none at calls r (joins.begun {calls = cs} {round = last} job rest) = compact_gives_none (joining.Reading job [] job.blocks 0 []) cs last rest
-compact_gives_none at calls r (joins.read {calls = cs} {round = last} job parts info infos pages bytes page more rest) =
-    compact_gives_none (joining.Reading job parts (info ∷ infos) (pages + 1) (bytes ++ page)) cs last rest
-compact_gives_none at calls r (joins.unread {calls = cs} {round = last} job parts info infos pages bytes more rest) = compact_gives_none (joining.Failing job.number Fault) cs last rest
-compact_gives_none at calls r (joins.block {calls = cs} {round = last} job parts info infos pages bytes rows all is rest) =
-    compact_gives_none (joining.Reading job (parts ++ rows ∷ []) infos 0 []) cs last rest
-compact_gives_none at calls r (joins.no_block {calls = cs} {round = last} job parts info infos pages bytes place all is rest) =
-    compact_gives_none (joining.Failing job.number (NotBlock info.file place)) cs last rest
-compact_gives_none at calls r (joins.starved {calls = cs} {round = last} job parts infos pages bytes rest) = compact_gives_none (joining.Failing job.number Memory) cs last rest
-compact_gives_none at calls r (joins.built {calls = cs} {round = last} job parts pages read bytes info is rest) = compact_gives_none (joining.Writing job bytes info.rows) cs last rest
-compact_gives_none at calls r (joins.written {calls = cs} {round = last} job bytes size some rest) = compact_gives_none (joining.Writing job (drop 65536 bytes) size) cs last rest
-compact_gives_none at calls r (joins.unwritten {calls = cs} {round = last} job bytes size why some rest) = compact_gives_none (joining.Failing job.number (write_cause why)) cs last rest
-compact_gives_none at calls r (joins.listed job size) = refl
-compact_gives_none at calls r (joins.unlisted job size why) = refl
-compact_gives_none at calls r (joins.dropped number why) = refl
-compact_gives_none at calls r (joins.over last) = refl
+compact_gives_none : {calls : List Call} {r : Round} (at : CompactStage) → CompactLeads at calls r → given_numbers calls ≡ []
+compact_gives_none at joins.nothing = refl
+compact_gives_none at (joins.no_job why) = refl
+compact_gives_none at (joins.begun job rest) = compact_gives_none (joining.Reading job [] job.blocks 0 []) rest
+compact_gives_none at (joins.read job parts info infos pages bytes page more rest) =
+    compact_gives_none (joining.Reading job parts (info ∷ infos) (pages + 1) (bytes ++ page)) rest
+compact_gives_none at (joins.unread job parts info infos pages bytes more rest) = compact_gives_none (joining.Failing job.number Fault) rest
+compact_gives_none at (joins.block job parts info infos pages bytes rows all is rest) =
+    compact_gives_none (joining.Reading job (parts ++ rows ∷ []) infos 0 []) rest
+compact_gives_none at (joins.no_block job parts info infos pages bytes place all is rest) =
+    compact_gives_none (joining.Failing job.number (NotBlock info.file place)) rest
+compact_gives_none at (joins.starved job parts infos pages bytes rest) = compact_gives_none (joining.Failing job.number Memory) rest
+compact_gives_none at (joins.built job parts pages read bytes info is rest) = compact_gives_none (joining.Writing job bytes info.rows) rest
+compact_gives_none at (joins.written job bytes size some rest) = compact_gives_none (joining.Writing job (drop 65536 bytes) size) rest
+compact_gives_none at (joins.unwritten job bytes size why some rest) = compact_gives_none (joining.Failing job.number (write_cause why)) rest
+compact_gives_none at (joins.listed job size) = refl
+compact_gives_none at (joins.unlisted job size why) = refl
+compact_gives_none at (joins.dropped number why) = refl
+compact_gives_none at (joins.over last) = refl
 
 reads_give_none : (pin : ℕ) (files : List ℕ) (calls : List Call) → AreReads pin files calls → given_numbers calls ≡ []
 reads_give_none pin files [] none = refl
@@ -211,9 +217,9 @@ item_is_told (Ok (request.Metrics m)) r calls (answer, is, asked) =
 item_is_told (Ok (request.Cut moment)) r calls (answer, is, are) = neither r calls (ap told_by_reply is ∙ (cut_tells_none answer).0) (ap given_numbers are)
 item_is_told (Ok request.CutAll) r calls (answer, is, are) = neither r calls (ap told_by_reply is ∙ (cut_tells_none answer).1) (ap given_numbers are)
 item_is_told (Ok request.Flush) r calls (last, is, leads) =
-    neither r calls (ap told_by_reply is ∙ flush_tells_none last) (flush_gives_none stage.Fresh calls last leads)
+    neither r calls (ap told_by_reply is ∙ flush_tells_none last) (flush_gives_none stage.Fresh leads)
 item_is_told (Ok request.Compact) r calls (last, is, leads) =
-    neither r calls (ap told_by_reply is ∙ compact_tells_none last) (compact_gives_none joining.Fresh calls last leads)
+    neither r calls (ap told_by_reply is ∙ compact_tells_none last) (compact_gives_none joining.Fresh leads)
 item_is_told (Ok request.Reclaim) r calls (answer, is, are) = neither r calls (ap told_by_reply is ∙ reclaim_tells_none answer) (ap given_numbers are)
 
 items_are_told : (items : List Item) (replies : List Reply) (calls : List Call) → AreItemsAnswered items replies calls → told_numbers replies ≡ given_numbers calls
@@ -222,7 +228,8 @@ items_are_told (item ∷ items) [] calls none = absurd none
 items_are_told (item ∷ items) (r ∷ replies) calls (now, later, are, first, rest) =
     let here = item_is_told item r now first in
     let after = items_are_told items replies later rest in
-    (λ i. here i ++ after i) ∙ sym (ap given_numbers are ∙ given_append now later)
+    let both : told_numbers (r ∷ replies) ≡ given_numbers now ++ given_numbers later = λ i. here i ++ after i in
+    both ∙ sym (ap given_numbers are ∙ given_append now later)
 
 are_theirs : (client : ℕ) (scripts : List (List Item)) (answers : List Answered) (es : List Entry) → AreServed client scripts answers es → AreTheirs client answers es
 are_theirs client [] answers es none = subst (λ (xs : List Answered). AreTheirs client xs es) (sym none) tt

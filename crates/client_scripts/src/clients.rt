@@ -29,10 +29,10 @@ use store_state::{LookPort, Port};
 pub type Scripts = Vec<Script>;
 
 /// Answers the scripts of several clients over one store, each over a seat of its own and on a thread of its own; the caller waits for
-/// all of them. Where no thread can be made a script is run by the caller.
+/// all of them. If no thread can be made a script is run by the caller.
 ///
-/// All memory for this is taken before the first thread starts, and where there is none the core comes back as it was. A script that
-/// wants memory later ends there, and the others go on.
+/// All memory for this is taken before the first thread starts, and if there is none the core comes back as it was. A script that runs
+/// out of memory later ends there, and the others go on.
 pub fn run_scripts<D: Device + Drop + Send, R: Threads + Wait + Sync, G: Gate>(
     rt: &R,
     alloc: Global,
@@ -130,7 +130,7 @@ fn run_one<R: Threads + Wait + Sync, Q: Port, G: Gate>(
     (seat.leave(), answered)
 }
 
-// Answers a script on a thread of its own, while the caller does the rest. Where no thread can be made the caller answers it too.
+// Answers a script on a thread of its own, while the caller does the rest. If no thread can be made the caller answers it too.
 fn beside<Q: Port + Send, R: Threads + Wait + Sync, G: Gate, F: FnOnce() -> T, T>(
     rt: &R,
     alloc: Global,

@@ -24,8 +24,8 @@ pub fn a_script_makes_just_its_calls<P: Port>(old: &P, new: &P)
         → (calls : List Call) × AreMade P.meaning old.now calls new.now × IsScriptAnswered items answered calls }
 {}
 
-/// What `run_scripts` says of its calls numbers the accepted pushes of all clients: in the one order of all calls, from the length of the
-/// history on and without a gap. Each client is told just the numbers of its own.
+/// The accepted pushes of all clients are numbered in the one order of all calls, from the length of the history on and without a gap, and
+/// each client is told just the numbers of its own. It follows from what `run_scripts` says of its calls.
 pub fn pushes_of_clients_are_numbered<D: Device>(old: &Core<D>, new: &Core<D>)
     ensures { (entries : List Entry) (scripts : List (List Item)) (answers : List Answered)
         → AreCallsOf D.Device.own old.now entries new.now
