@@ -1,5 +1,6 @@
 pub mod Found
 pub mod Leaves
+pub mod Numbers
 pub mod Spelled
 pub mod Turns
 pub mod Full

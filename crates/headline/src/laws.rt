@@ -28,8 +28,8 @@ ghost use Rattle.session_meaning.specs.Place.{Place};
 ghost use Rattle.session_meaning.specs.Kept.{Kept, begun_with, kept_after_all, kept_at, were_unsure};
 ghost use Rattle.session_meaning.specs.Progress.{AreAnsweredOver};
 ghost use Rattle.session_meaning.specs.Pushes.{accepted_entries, accepted_entry, known_pushes};
-ghost use Rattle.session_meaning.specs.Runs.{Edges, IsRunOf, Outcome, TellsAll};
-ghost use Rattle.session_meaning.specs.Session.{Session, reply_texts};
+ghost use Rattle.session_meaning.specs.Runs.{Edges, IsRunOf, Outcome, TellsAll, text_written};
+ghost use Rattle.session_meaning.specs.Session.{Session};
 ghost use Rattle.session_meaning.specs.Stops.{Recovers};
 ghost use Rattle.headline.specs.Headline.{KeepsTheHistory, TellTheHistory, TellsFront};
 ghost use Rattle.headline.specs.Requests.{HasHistory, KeepsFrom};
@@ -101,12 +101,13 @@ pub fn the_next_run_goes_on<D: Device>(begun: &D, left: &D, disk: &D, later: &D)
         start (kept_after_all (begun_with start) o.acts o.replies) }
 {}
 
-/// What is written in a store that was opened is the text of these replies, or a first part of it.
+/// What is written in a store that was opened is the text of these replies, or a first part of it; of a drill, the line
+/// that counts its replies and the text of the last three.
 pub fn replies_are_written()
     ensures { (told : Bool) (words : List (List ℕ)) (c : Command) (o : Outcome) (old new : Edges)
         → Spells words c
         → IsRunOf told words o old new → TellsAll c old → IsTrue o.opened
-        → AppendsPrefix old.taken new.taken (reply_texts o.replies) }
+        → AppendsPrefix old.taken new.taken (text_written c o.replies) }
 {}
 
 /// Where replies tell a history, each tells one front of the last one: with each push that was accepted before, or that

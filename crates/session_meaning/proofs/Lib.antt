@@ -31,5 +31,6 @@ pub mod Unsure
 pub mod IngestLaws
 mod FewerBlocks
 mod IngestRounds
+mod DrillLaws
 pub mod IngestParts
 pub mod Following

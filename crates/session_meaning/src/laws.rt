@@ -52,6 +52,7 @@ ghost use Rattle.session_meaning.specs.Act.Act.{Ask};
 ghost use Rattle.session_meaning.specs.Answering.{AreItemsAnswered, CallsLead, IsAnsweredByCalls, at_core};
 ghost use Rattle.session_meaning.specs.Causes.{HasCompactCause, HasFlushCause, HasPushCause, HasWriteCause, act_blames_disk, blames_disk, disk_faults};
 ghost use Rattle.session_meaning.specs.Done.{AreDone, AreDoneAmong};
+ghost use Rattle.session_meaning.specs.Drill.{Drills};
 ghost use Rattle.session_meaning.specs.Kept.{begun_with, kept_after_all, kept_at, were_unsure};
 ghost use Rattle.session_meaning.specs.Listed.{ListsState};
 ghost use Rattle.session_meaning.specs.Over.{AreDoneOver, IsKeptAt, IsShownAt};
@@ -63,7 +64,7 @@ ghost use Rattle.session_meaning.specs.Pushes.{HasRoomFor, HasRoomForPush, HasRo
 ghost use Rattle.session_meaning.specs.Runs.{ComesToItsEnd, Edges, GoesWell, IsRunOf, Outcome, TellsAll};
 ghost use Rattle.session_meaning.specs.At.{At, IsStill, history_of};
 ghost use Rattle.session_meaning.specs.Duties.{Duty, Follows, duties, from_lines};
-ghost use Rattle.session_meaning.specs.Ingest.{AreJoined, Far, HasFinished, Ingests, Pushes, Stand};
+ghost use Rattle.session_meaning.specs.Ingest.{AreJoined, Far, HasFinished, Ingests, Pushes, Stand, is_joined};
 ghost use Rattle.session_meaning.specs.Ingest.Far.{so_far, whole};
 ghost use Rattle.session_meaning.specs.Session.{IsAnswered, IsAnsweredOrRefused, IsFound, IsFoundSeen, IsSure, IsTraceIn, IsTraceSeen, Session, is_refusal, is_refused};
 ghost use Rattle.session_meaning.specs.Stops.{AreTidy, BeginsListed, Recovers, StandsForLast, StandsWithin};
@@ -375,6 +376,14 @@ pub fn an_ingest_finishes()
     ensures { (told : Bool) (source : List (List ℕ)) (before after : Stand) (items : List Item)
         (replies : List Reply)
         → Ingests told source before items replies after whole → HasFinished items replies }
+{}
+
+/// A drill that did all compacted until a compaction joined no blocks.
+pub fn a_drill_compacts_to_its_end()
+    ensures { (sure : Bool) (seed traces : ℕ) (told to_tell : Option (List ℕ))
+        (items : List Item) (replies : List Reply) (refused : List (List ℕ)) (first last : At)
+        → (d : Drills seed traces told items replies refused to_tell)
+        → Session sure first items replies last → is_joined d.last ≡ false }
 {}
 
 /// What a flush makes of the store.

@@ -12,8 +12,8 @@ mod laws;
 pub use ending::Ending;
 pub use laws::{
     a_core_answers_as_the_history_says, a_core_ingests_as_the_history_says,
-    a_store_answers_as_the_history_says, accepted_pushes_are_stored, an_ingest_finishes,
-    an_ingest_is_a_session, calls_answer_as_the_history_says, comes_to_an_end,
+    a_drill_compacts_to_its_end, a_store_answers_as_the_history_says, accepted_pushes_are_stored,
+    an_ingest_finishes, an_ingest_is_a_session, calls_answer_as_the_history_says, comes_to_an_end,
     compactions_come_to_an_end, compactions_have_their_causes, duties_make_an_ingest,
     each_disk_fault_is_counted, flushes_have_their_causes, pushes_have_their_causes,
     queries_tell_what_they_see, reclaims_have_their_causes, replies_tell_the_history,

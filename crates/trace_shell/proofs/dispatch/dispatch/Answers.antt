@@ -1,8 +1,8 @@
-use Rattle.std.proofs.Common.{false, true, Err, ap, map, refl, string_bytes, ◌∙◌}
+use Rattle.std.proofs.Common.{false, true, Err, ap, map, refl, string_bytes, subst, ◌∙◌}
 use Rattle.command_words.specs.Commands.{Spells, command_of}
 use Rattle.command_words.proofs.Spelled.{spelled_clean, spelled_one}
 use Rattle.session_meaning.specs.declared.ending.Ending.TheVariants.{BadWords, Starved}
-use Rattle.session_meaning.specs.Runs.{Edges, edges}
+use Rattle.session_meaning.specs.Runs.{Edges, TakesNothing, edges}
 use Rattle.traceql_types.proofs.Calls.{refuses-none}
 use Rattle.trace_shell.proofs.RunLemmas.{is_run, left_same, refused_runs, starved_runs, unopened, untouched_recovers}
 use Rattle.trace_shell.proofs.dispatch.dispatch.Goals as goal
@@ -33,9 +33,9 @@ returns-in-Ok-clause-nothing_done g c = λ faulty.
     absurd (faulty (spelled_clean words (command_of c.in-Ok.asked) c.in-Ok.ensures.asked))
 
 pub returns-in-Ok-clause-alone : goal.returns-in-Ok-clause-alone
-returns-in-Ok-clause-alone g c = λ line alone.
+returns-in-Ok-clause-alone g c = λ asks takes spells.
     let words = map string_bytes c.args.words.now in
-    c.on_store.ensures.alone line (spelled_one words (command_of c.in-Ok.asked) _ c.in-Ok.ensures.asked alone)
+    c.on_store.ensures.alone (subst TakesNothing (spelled_one words asks (command_of c.in-Ok.asked) spells c.in-Ok.ensures.asked) takes)
 
 pub returns-in-Err-Refused-clause-ran : goal.returns-in-Err-Refused-clause-ran
 returns-in-Err-Refused-clause-ran g c = (
