@@ -7,3 +7,4 @@ pub mod Full
 pub mod Whole
 pub mod Rows
 pub mod Taken
+pub mod TakenDrill

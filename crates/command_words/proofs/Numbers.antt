@@ -1,12 +1,11 @@
 -- Numbers in the words, and what is at fault in words besides what `clap` finds.
-use Rattle.std.proofs.Common.{◌≡◌, ◌∙◌, ◌&&◌, ◌<◌, ◌≤◌, ◌^◌, ℕ, Bool, true, false, List, [], ◌∷◌, Option, Some, None, Result, Ok, Err, refl, sym, ap, subst, leb, lit<, arith}
-use Rattle.std.specs.Prelude.{IfErr, codes, decimal, is_some, if◌then◌else◌, option_and_then, option_map}
+use Rattle.std.proofs.Common.{◌≡◌, ◌∙◌, ◌&&◌, ◌<◌, ◌≤◌, ◌^◌, ℕ, Bool, true, false, List, [], Option, Some, None, Result, Ok, Err, refl, sym, ap, subst, leb, lit<, arith}
+use Rattle.std.specs.Prelude.{codes, decimal, is_some, if◌then◌else◌, option_and_then, option_map}
 use Rattle.std.specs.Cmp.Lexicographic.{bytes_decides}
 use Rattle.std.specs.Str.{bytes_eq}
 use Rattle.std.specs.Str.Parse.{ParsesUnsigned, digits_value}
 use Rattle.std.proofs.lemmas.Bool.{le-leb, leb-true}
 use Rattle.std.proofs.lemmas.Fmt.{decimal_is_IsNumeral, parse-decimal}
-use Rattle.clap.specs.Kinds.{Kinds, or_else}
 use Rattle.clap.specs.Walk.{Row, Text, first_of}
 use Rattle.clap.specs.Words.{fault_of, subcommand_of}
 use Rattle.command_words.specs.Numbers.{IsNumber, fewest_traces, greatest_seed, least_seed, most_traces, number_fault, number_in, numbers_fault, seed_fault, traces_fault, word_faults}

@@ -13,7 +13,7 @@ use Rattle.clap.specs.Faults.{fault_of}
 use Rattle.clap.specs.Walk.{Text}
 use Rattle.clap.proofs.OnLiterals.{clap_on_literals}
 use Rattle.command_words.specs.Commands.{Alone, Command, Drill, Ingest, IsDrillGiven, Session, Spells, command_of, drill, ingest, search, session, trace}
-use Rattle.command_words.specs.Numbers.{IsNumber, fewest_traces, greatest_seed, least_seed, most_traces, number_fault, numbers_fault, seed_fault, traces_fault, word_faults}
+use Rattle.command_words.specs.Numbers.{fewest_traces, greatest_seed, least_seed, most_traces, seed_fault, traces_fault, word_faults}
 use Rattle.command_words.specs.Spelling.{Given, IsDrill, IsIngest, IsSearch, IsSession, IsTaken, IsTrace, found_value, given_in, is_flag, search_line, trace_line}
 use Rattle.command_words.specs.Table.{words_app}
 use Rattle.command_words.specs.declared.asked.Asked.{Asked}

@@ -103,6 +103,10 @@ pub record IsDrill (seed traces : List ℕ) (words : List (List ℕ)) : Type 0 w
   pub seed_is : found_value words (codes "seed") ≡ Some seed
   pub traces_are : found_value words (codes "traces") ≡ Some traces
 
+-- The words of a drill as the documents spell them, with these texts as its numbers.
+abbrev pub drill_words : List ℕ → List ℕ → List (List ℕ)
+drill_words seed traces = codes "drill" ∷ codes "--seed" ∷ seed ∷ codes "--traces" ∷ traces ∷ []
+
 -- ---- what is found
 
 -- what the matches of the subcommand give

@@ -4,11 +4,11 @@
 //! The function has an empty body: its contract is the statement, and its proof stands in `proofs/laws/`. Nothing
 //! calls it; proofs of `session_meaning` and `trace_shell` cite the lemmas, of `proofs/Spelled.antt`.
 
-ghost use Rattle.std.specs.Prelude.{◌≡◌, [], All, List, ℕ};
+ghost use Rattle.std.specs.Prelude.{◌≡◌, ◌≤◌, [], All, List, decimal, ℕ};
 ghost use Rattle.std.specs.Str.{IsUtf8};
-ghost use Rattle.command_words.specs.Commands.{Alone, Command, Spells};
-ghost use Rattle.command_words.specs.Numbers.{word_faults};
-ghost use Rattle.command_words.specs.Spelling.{Given, IsTaken, search_line};
+ghost use Rattle.command_words.specs.Commands.{Alone, Command, Drill, Spells};
+ghost use Rattle.command_words.specs.Numbers.{fewest_traces, greatest_seed, most_traces, word_faults};
+ghost use Rattle.command_words.specs.Spelling.{Given, IsTaken, drill_words, search_line};
 
 /// Laws of what words ask. Words have no fault exactly where they ask something: none by `clap`'s own definition, and no
 /// number out of its range.
@@ -25,4 +25,8 @@ pub fn what_words_spell()
     // Words that are those of a search as the documents write it ask for it.
     ensures taken { (words : List (List ℕ)) (given : Given) → IsTaken given words
         → Spells words (Alone (search_line given)) }
+    // So do those of a drill, whose numbers are in their ranges.
+    ensures drills { (seed traces : ℕ) → seed ≤ greatest_seed → fewest_traces ≤ traces
+        → traces ≤ most_traces
+        → Spells (drill_words (decimal seed) (decimal traces)) (Drill seed traces) }
 {}
