@@ -17,6 +17,7 @@ pub mod Duties
 pub mod Pushes
 pub mod Causes
 pub mod Answering
+pub mod Serving
 pub mod Runs
 pub mod Stops
 pub mod Progress
