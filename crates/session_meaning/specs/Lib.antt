@@ -20,4 +20,5 @@ pub mod Answering
 pub mod Serving
 pub mod Runs
 pub mod Stops
+pub mod ServedRuns
 pub mod Progress
