@@ -187,6 +187,11 @@ TakesNothing (serve clients rounds) = ⊥
 TakesNothing (drill seed traces) = ⊤
 TakesNothing (Alone line) = ⊤
 
+-- The command is for one client.
+abbrev pub IsForOne : Command → Type 0
+IsForOne (serve clients rounds) = ⊥
+IsForOne _ = ⊤
+
 -- The source has no part in the ending.
 abbrev pub NeedsNoSource : Ending → Type 0
 NeedsNoSource ReadFault = ⊥
