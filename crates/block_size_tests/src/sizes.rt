@@ -22,12 +22,11 @@ struct Plan {
 /// leave each remainder once.
 const STEP: u64 = 618_031;
 
-/// The quotient and the remainder.
+/// The quotient and the remainder; by 0 they are 0.
 fn divided(number: u64, by: u64) -> (u64, u64) {
-    match by {
-        0 => (0, number),
-        _ => (number / by, number % by),
-    }
+    let quotient = number.checked_div(by).unwrap_or(0);
+    let rest = number.checked_rem(by).unwrap_or(0);
+    (quotient, rest)
 }
 
 impl Plan {
@@ -179,7 +178,9 @@ fn a_trace_of_300_000_rows(rt: HostRuntime) {
 }
 
 /// Rows with repeats, and the layout of the block of those that stay.
-static REPEATS: [(Plan, Layout, [Sought; 2]); 4] = [
+type Repeats = (Plan, Layout, [Sought; 2]);
+
+static REPEATS: [Repeats; 2] = [
     // in one trace 100,000 rows of 1,000 spans: three stripes of 256, and one of 232 in 18 + 51 · 232 = 11,850 bytes
     (
         Plan {
@@ -216,7 +217,18 @@ static REPEATS: [(Plan, Layout, [Sought; 2]); 4] = [
         // the rows of the 26th trace are 250 to 259, in two stripes; those of the last one are in the last stripe
         [(52, 10, 12), (2000, 10, 5)],
     ),
-    // as many rows as a block may have, all of one span
+];
+
+#[test]
+fn repeats_in_one_trace_and_in_all(rt: HostRuntime) {
+    for (plan, layout, sought) in &REPEATS {
+        check(&rt, plan, layout, sought);
+    }
+}
+
+/// As many rows as a block may have.
+static MOST_REPEATS: [Repeats; 2] = [
+    // all of one span
     (
         Plan {
             traces: 1,
@@ -233,7 +245,7 @@ static REPEATS: [(Plan, Layout, [Sought; 2]); 4] = [
         },
         [(2, 1, 3), (4, 0, 2)],
     ),
-    // as many, of 262,144 traces: 1,024 stripes, and a header of 32,788 bytes, which is nine pages; 1,542 pages of the index
+    // of 262,144 traces: 1,024 stripes, and a header of 32,788 bytes, which is nine pages; 1,542 pages of the index
     // have 262,140 traces, and one has four; their number has eleven binary digits
     (
         Plan {
@@ -254,8 +266,8 @@ static REPEATS: [(Plan, Layout, [Sought; 2]); 4] = [
 ];
 
 #[test]
-fn repeats_in_one_trace_and_in_all(rt: HostRuntime) {
-    for (plan, layout, sought) in &REPEATS {
+fn as_many_repeats_as_a_block_has_rows(rt: HostRuntime) {
+    for (plan, layout, sought) in &MOST_REPEATS {
         check(&rt, plan, layout, sought);
     }
 }

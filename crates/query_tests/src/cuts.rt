@@ -88,10 +88,83 @@ const IN_TIGHT: &[Run] = &[
     (35, 35, READ),
 ];
 
-static TEXTS: [(&str, &[Run]); 3] = [
+/// A fraction without a unit, and one with a unit.
+const FRACTION: &str = "{ .v = 0.5 }";
+
+const IN_FRACTION: &[Run] = &[
+    (0, 2, ENDS),
+    (3, 3, "unexpected 2"),
+    (4, 8, ENDS),
+    (9, 9, "unexpected 8"),
+    (10, 12, "fraction-literal 7"),
+];
+
+const DURATION: &str = "{ duration > 1.5s }";
+
+const IN_DURATION: &[Run] = &[
+    (0, 2, ENDS),
+    (3, 9, "bad-char 2"),
+    (10, 14, ENDS),
+    (15, 15, "unexpected 14"),
+    (16, 16, "fraction-literal 13"),
+    (17, 18, ENDS),
+    (19, 19, READ),
+];
+
+/// Signs of two bytes, of which the first one alone can't stand there.
+const TRUTHS: &str = "{ .a || .b && .c }";
+
+const IN_TRUTHS: &[Run] = &[
+    (0, 2, ENDS),
+    (3, 3, "unexpected 2"),
+    (4, 5, ENDS),
+    (6, 6, "unexpected 5"),
+    (7, 8, ENDS),
+    (9, 9, "unexpected 8"),
+    (10, 11, ENDS),
+    (12, 12, "unexpected 11"),
+    (13, 14, ENDS),
+    (15, 15, "unexpected 14"),
+    (16, 17, ENDS),
+    (18, 18, READ),
+];
+
+/// Whole they are queries, which a check of patterns and kinds refuses.
+const PATTERN: &str = r#"{ name =~ "a)(b" }"#;
+
+const IN_PATTERN: &[Run] = &[
+    (0, 2, ENDS),
+    (3, 5, "bad-char 2"),
+    (6, 10, ENDS),
+    (11, 15, "unended 10"),
+    (16, 17, ENDS),
+    (18, 18, READ),
+];
+
+const CLASH: &str = "{ name = 1 }";
+
+const IN_CLASH: &[Run] = &[
+    (0, 2, ENDS),
+    (3, 5, "bad-char 2"),
+    (6, 11, ENDS),
+    (12, 12, READ),
+];
+
+/// 65 parentheses, one more than may be open.
+const DEEP: &str = "{ (((((((((((((((((((((((((((((((((((((((((((((((((((((((((((((((((";
+
+const IN_DEEP: &[Run] = &[(0, 66, ENDS), (67, 67, "too-deep 66")];
+
+static TEXTS: [(&str, &[Run]); 9] = [
     (CONDITIONS, IN_CONDITIONS),
     (STAGES, IN_STAGES),
     (TIGHT, IN_TIGHT),
+    (FRACTION, IN_FRACTION),
+    (DURATION, IN_DURATION),
+    (TRUTHS, IN_TRUTHS),
+    (PATTERN, IN_PATTERN),
+    (CLASH, IN_CLASH),
+    (DEEP, IN_DEEP),
 ];
 
 /// What a text is answered.

@@ -1,5 +1,5 @@
-//! A session of two pushes, which become one block, and what is told of them: by docs/LINE-PROTOCOL.md, in whose lines and replies short
-//! words stand for long texts.
+//! A session that pushes a span and then the same span with another name, each to a block of its own, and joins the blocks; and what is
+//! told of them, by docs/LINE-PROTOCOL.md. In its lines and replies short words stand for long texts.
 //!
 //! The calls of the disk, counted from 1, were worked out by hand from the pages of the formats:
 //!
@@ -14,43 +14,29 @@
 //! | 66 to 79 | four files are emptied with two calls each, and six write the list |
 
 use disk_model::MemDisk;
-use run_support::{LOOK_A1, PUSH_X, PUSHED_0, TRACE_X, session_on};
+use run_support::{LOOK_A1, PUSH_X, PUSH_Y, PUSHED_0, TRACE_X, session_on};
 use std::alloc::{AllocError, Global};
 use std::process::Abort;
 use std::sync::Wait;
 use std::thread::Threads;
 
-/// A push of a child of the one span that `PUSH_X` pushes.
-const PUSH_CHILD: &str =
-    r#"push {"resourceSpans":[{"scopeSpans":[{"spans":[{"traceId":"000000000000000000000000000000a1","spanId":"00000000000000b2","parentSpanId":"00000000000000b1","name":"y","startTimeUnixNano":"2","endTimeUnixNano":"3"}]}]}]}"#;
-
-/// The trace of both.
-const BOTH: &str =
-    r#"{"resourceSpans":[{"resource":{"attributes":[]},"scopeSpans":[{"scope":{"attributes":[],"name":"","version":""},"spans":[{"attributes":[],"endTimeUnixNano":"2","kind":0,"name":"x","parentSpanId":"","spanId":"00000000000000b1","startTimeUnixNano":"1","status":{"code":0,"message":""},"traceId":"000000000000000000000000000000a1"},{"attributes":[],"endTimeUnixNano":"3","kind":0,"name":"y","parentSpanId":"00000000000000b1","spanId":"00000000000000b2","startTimeUnixNano":"2","status":{"code":0,"message":""},"traceId":"000000000000000000000000000000a1"}]}]}]}"#;
-
-/// What a search finds of the first push alone.
-const FOUND_ONE: &str =
+/// What a search finds: the span of the first push.
+const FOUND: &str =
     r#"{"traces":[{"durationNanos":"1","rootName":"x","rootService":null,"spanSets":[{"by":[],"matched":1,"spans":[{"attributes":[],"durationNanos":"1","name":"x","spanId":"00000000000000b1","startTimeUnixNano":"1"}]}],"startTimeUnixNano":"1","traceId":"000000000000000000000000000000a1"}]}"#;
 
-/// What it finds of both.
-const FOUND_BOTH: &str =
-    r#"{"traces":[{"durationNanos":"2","rootName":"x","rootService":null,"spanSets":[{"by":[],"matched":2,"spans":[{"attributes":[],"durationNanos":"1","name":"x","spanId":"00000000000000b1","startTimeUnixNano":"1"},{"attributes":[],"durationNanos":"1","name":"y","spanId":"00000000000000b2","startTimeUnixNano":"2"}]}],"startTimeUnixNano":"1","traceId":"000000000000000000000000000000a1"}]}"#;
-
 /// The words, and what they stand for: pushes and the look-up of their trace; what is told; and replies to one line.
-static WORDS: [(&str, &str); 18] = [
+static WORDS: [(&str, &str); 16] = [
     ("$x", PUSH_X),
-    ("$child", PUSH_CHILD),
+    ("$y", PUSH_Y),
     ("$look", LOOK_A1),
     ("$trace", TRACE_X),
-    ("$both", BOTH),
-    ("$found_one", FOUND_ONE),
-    ("$found_both", FOUND_BOTH),
+    ("$found", FOUND),
     ("$0", PUSHED_0),
     ("$1", "ok push 1 accepted=1 rejected=0 skipped=0\n"),
     ("$moved", "ok cutall moved=1\n"),
     ("$still", "ok cutall moved=0\n"),
     ("$flushed", "ok flush rows=1\n"),
-    ("$joined", "ok compact blocks=2 rows=2\n"),
+    ("$joined", "ok compact blocks=2 rows=1\n"),
     ("$three", "ok reclaim files=3\n"),
     ("$four", "ok reclaim files=4\n"),
     ("$fault", "refused disk-fault\n"),
@@ -60,16 +46,16 @@ static WORDS: [(&str, &str); 18] = [
 
 /// The session's lines, the last three of which open the store again and look at it.
 pub(crate) const LINES: &str =
-    "$x\ncutall\nflush\n$child\ncutall\nflush\ncompact\nreclaim\nreopen\n$look\nsearch { }\n";
+    "$x\ncutall\nflush\n$y\ncutall\nflush\ncompact\nreclaim\nreopen\n$look\nsearch { }\n";
 
 /// What looks at a store.
 const LOOKS: &str = "$look\nsearch { }\n";
 
-/// What is told of a store of no push, of the first one, and of both.
+/// What is told of a store of no push, of the first one, and of both: of a span the first occurrence counts.
 static TOLD: [&str; 3] = [
     "ok trace as_of=0 spans=0 {\"resourceSpans\":[]}\nok search as_of=0 traces=0 {\"traces\":[]}\n",
-    "ok trace as_of=1 spans=1 $trace\nok search as_of=1 traces=1 $found_one\n",
-    "ok trace as_of=2 spans=2 $both\nok search as_of=2 traces=1 $found_both\n",
+    "ok trace as_of=1 spans=1 $trace\nok search as_of=1 traces=1 $found\n",
+    "ok trace as_of=2 spans=1 $trace\nok search as_of=2 traces=1 $found\n",
 ];
 
 /// What is told of a store of so many pushes.

@@ -23,6 +23,7 @@ mod FaultLaws
 pub mod Acts
 mod FaultRuns
 mod Counted
+mod Places
 pub mod OnDisk
 pub mod CoreSessions
 pub mod StoreSessions

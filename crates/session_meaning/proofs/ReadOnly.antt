@@ -25,7 +25,7 @@ step_fails f g m m' e r (Unread reads told rose same) = inl (ap read_only same)
 step_fails f g m m' e r (Breaks none writes told rose same) = inr (rose, ap read_only same)
 step_fails f g m m' e r (Halts none reclaims writes told rose emptied fewer same) = inr (rose, ap read_only same)
 
-abbrev Since : ℕ → At → Type 0
+abbrev pub Since : ℕ → At → Type 0
 Since start at = (start ≤ at.faults) × HasFailedSince start at
 
 kept_on : (start : ℕ) (before after : At) → before.faults ≤ after.faults → after.machine.read_only ≡ before.machine.read_only → HasFailedSince start before → HasFailedSince start after
@@ -40,11 +40,11 @@ by_step start before after e r step (earlier, since) =
     go (inl same) = kept_on start before after step.0 same since
     go (inr (rose, is)) = inr (after.faults, is, rose_from start before.faults after.faults earlier rose, omega arith)
 
-by_still : (start : ℕ) (failed : Bool) (before after : At) → IsUnchanged failed before after → Since start before → Since start after
+pub by_still : (start : ℕ) (failed : Bool) (before after : At) → IsUnchanged failed before after → Since start before → Since start after
 by_still start failed before after still (earlier, since) =
     (two start before.faults after.faults earlier still.1, kept_on start before after still.1 (ap read_only still.0) since)
 
-item_since : (start : ℕ) (told : Bool) (item : Item) (before after : At) (r : Reply) → IsAnsweredOrRefused told item before r after → Since start before → Since start after
+pub item_since : (start : ℕ) (told : Bool) (item : Item) (before after : At) (r : Reply) → IsAnsweredOrRefused told item before r after → Since start before → Since start after
 item_since start told (Ok (request.Push reading moment)) before after r (inl (answer, is, step)) since = by_step start before after (Push reading.batch.spans moment) (push_reply answer) step since
 item_since start told (Ok (request.Push reading moment)) before after r (inr bad) since = absurd bad
 item_since start told (Ok (request.Trace id)) before after r (inl (rows, found, is, still)) since = by_still start false before after still since

@@ -1,5 +1,6 @@
 -- What is done over a store that is open or closed is what a session means.
-use Rattle.std.proofs.Common.{arith, ◌≡◌, ◌≢◌, ⊤, inl, inr, ℕ, ◌≤◌, Bool, true, false, not, ◌&&◌, List, [], ◌∷◌, ◌++◌, Option, None, Some, Result, Ok, Err, IsTrue, map, refl, sym, ◌∙◌, ap, subst}
+use Rattle.std.specs.Prelude.{⊤}
+use Rattle.std.proofs.Common.{arith, ◌≡◌, ◌≢◌, inl, inr, ℕ, ◌≤◌, Bool, true, false, not, ◌&&◌, List, [], ◌∷◌, ◌++◌, Option, None, Some, Result, Ok, Err, IsTrue, map, refl, sym, ◌∙◌, ap, subst}
 use Rattle.disk_model.specs.Counts.{Raised}
 use Rattle.disk_model.specs.Crash.{LeavesOnly, Reached}
 use Rattle.disk_model.specs.Images.{Image}

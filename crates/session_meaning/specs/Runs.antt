@@ -214,6 +214,12 @@ Does told c o old new =
     (IsTrue o.opened × HasOpened o old new × IsPastOpening o.ending × DoesInStore told c o old new)
     ⊎ ((o.opened ≡ false) × HasNotOpened o old new)
 
+-- It was asked requests alone, and so its store wasn't opened again; but a session's lines may ask for that.
+abbrev pub OnlyAsks : Command → List Act → Type 0
+OnlyAsks session acts = ⊤
+OnlyAsks ingest acts = (items : List Item) × (acts ≡ map Ask items)
+OnlyAsks (Alone line) acts = (items : List Item) × (acts ≡ map Ask items)
+
 -- ---- how a run may end
 
 -- The ending has its cause: a count of faults rose, or the disk's bytes are no store's, or so many bytes were taken as a run
@@ -239,6 +245,7 @@ FitsWords (fault ∷ faults) ending = (ending ≡ BadWords) ⊎ (ending ≡ Star
 pub record IsRunOf (told : Bool) (words : List (List ℕ)) (o : Outcome) (old new : Edges) : Type 0 where
   pub words_fit : FitsWords (word_faults words) o.ending
   pub does : (c : Command) → Spells words c → Does told c o old new
+  pub asks : (c : Command) → Spells words c → OnlyAsks c o.acts
   pub session : AreDone told (opened_at o.first) o.acts o.replies o.last
   pub cause : HasCause o.ending old new
 

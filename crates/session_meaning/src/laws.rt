@@ -128,9 +128,9 @@ pub fn a_store_answers_as_the_history_says<D: Device>(old: &Store<D>, new: &Stor
         → (last : Place) × IsKeptAt D.Device.own start least new.now last
         × AreDoneAmong (D.left_since (disk_of new.now) (D.moment start)) first acts replies last }
     // What is done so is done, whichever image an opening finds.
-    ensures done { (left : Image
-        → Type 0) (acts : List Act) (replies : List Reply) (first last : Place)
-        → AreDoneAmong left first acts replies last → AreDone true first acts replies last }
+    ensures done { (acts : List Act) (replies : List Reply) (first last : Place) (since : ℕ)
+        → AreDoneAmong (D.left_since (disk_of new.now) since) first acts replies last
+        → AreDone true first acts replies last }
 {}
 
 /// What is asked of an open store, with no reopening in between, is a session: so all that is said of sessions is said of
@@ -207,6 +207,24 @@ pub fn sessions_keep_the_store()
     ensures read_only { (told : Bool) (items : List Item) (replies : List Reply) (first last : At)
         → Session told first items replies last → first.machine.read_only ≡ None
         → HasFailedSince first.faults last }
+{}
+
+/// What is kept of a place over all that is done from there, over reopenings too.
+pub fn places_are_kept()
+    // The disk of an open store lists it.
+    ensures listed { (told : Bool) (acts : List Act) (replies : List Reply) (first last : Place)
+        → AreDone told first acts replies last
+        → (first.is_open ≡ true → first.is_listed ≡ true)
+        → last.is_open ≡ true → last.is_listed ≡ true }
+    // No job is left open while the store writes.
+    ensures closed { (told : Bool) (acts : List Act) (replies : List Reply) (first last : Place)
+        → AreDone told first acts replies last → IsClosed first.store.machine
+        → IsClosed last.store.machine }
+    // A store that wrote at first writes no more only where a call failed since.
+    ensures read_only { (told : Bool) (acts : List Act) (replies : List Reply)
+        (first last : Place)
+        → AreDone told first acts replies last → first.store.machine.read_only ≡ None
+        → HasFailedSince first.store.faults last.store }
 {}
 
 /// As many replies are `disk-fault` as calls of the disk failed.

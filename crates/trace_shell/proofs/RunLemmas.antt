@@ -21,12 +21,14 @@ use Rattle.store_core.specs.declared.error.OpenError.{OpenError}
 use Rattle.store_core.specs.declared.error.OpenError.TheVariants as open_errors
 use Rattle.store_images.specs.Stored.{KeepsStored}
 use Rattle.store_images.proofs.Keeping.{keeps_same}
+use Rattle.session_text.specs.declared.reply.Reply.{Reply}
 use Rattle.session_meaning.specs.declared.ending.Ending.{Ending}
 use Rattle.session_meaning.specs.declared.ending.Ending.TheVariants.{Answered, BadWords, NotOpened, NotStore, ReadFault, Refused, Spent, Starved, WriteFault}
 use Rattle.session_meaning.specs.Asked.{after_moment}
-use Rattle.session_meaning.specs.Runs.{Does, DoesInStore, Edges, FitsWords, HasAnswered, HasCause, HasIngested, HasRun, IsNoStore, IsPastOpening, IsRunOf, Outcome, told_bytes}
+use Rattle.session_meaning.specs.Runs.{Does, DoesInStore, Edges, FitsWords, HasAnswered, HasCause, HasIngested, HasRun, IsNoStore, IsPastOpening, IsRunOf, OnlyAsks, Outcome, told_bytes}
 use Rattle.session_meaning.specs.At.{At}
-use Rattle.session_meaning.specs.Place.{opened_at}
+use Rattle.session_meaning.specs.Act.{Act}
+use Rattle.session_meaning.specs.Place.{Place, opened_at}
 use Rattle.session_meaning.specs.Statuses.{status_of}
 use Rattle.session_meaning.specs.Stops.{Recovers}
 use Rattle.session_meaning.proofs.Following.{came_so_far}
@@ -77,6 +79,7 @@ pub is_run : (told : Bool) (words : List (List ℕ)) (c : Command) (o : Outcome)
 is_run told words c o old new s done = record {
   words_fit = fits_asked words c o.ending s done.asked;
   does = by_one told words c o old new s done.does;
+  asks = λ d t. subst (λ (k : Command). OnlyAsks k o.acts) (spelled_one words c d s t) done.asks;
   session = done.session;
   cause = done.cause;
 }
@@ -123,6 +126,13 @@ in_store sure (Alone line) o old new (item, reply, acts, replies, own, asked, cl
   }),
 )
 
+-- A command other than a session asked requests alone.
+pub only_asks : (sure : Bool) (c : Command) (first : At) (last : Place) (old_left old_taken told left taken to_tell : Option (List ℕ)) (e : Ending) (acts : List Act) (replies : List Reply) (blamed : List (List ℕ))
+    → CameTo sure c first last old_left old_taken told left taken to_tell e acts replies blamed → OnlyAsks c acts
+only_asks sure session first last old_left old_taken told left taken to_tell e acts replies blamed came = tt
+only_asks sure ingest first last old_left old_taken told left taken to_tell e acts replies blamed came = (came.0, came.1)
+only_asks sure (Alone line) first last old_left old_taken told left taken to_tell e acts replies blamed came = (came.0 ∷ [], came.2)
+
 -- ---- in none
 
 -- no store
@@ -132,6 +142,12 @@ nowhere = record { machine = new_machine (record { base = []; start = 0; entries
 -- a run whose store wasn't opened
 abbrev pub unopened : Ending → Outcome
 unopened e = record { ending = e; opened = false; moment = 0; first = nowhere; acts = []; refused = []; replies = []; last = opened_at nowhere }
+
+-- nothing was asked
+none_asked : (c : Command) → OnlyAsks c []
+none_asked session = tt
+none_asked ingest = ([], refl)
+none_asked (Alone line) = ([], refl)
 
 no_truth : IsTrue false → ⊥
 no_truth e = let bad : false ≡ true = e in cc
@@ -166,6 +182,7 @@ pub starved_runs : (told : Bool) (words : List (List ℕ)) (old : Edges) → IsR
 starved_runs told words old = record {
   words_fit = fits (word_faults words);
   does = λ c s. inr (refl, record { no_acts = refl; no_replies = refl; no_refused = refl; left = refl; clock = inr refl; ends = refl; quiet = λ not. refl });
+  asks = λ c s. none_asked c;
   session = (refl, refl);
   cause = tt;
 }
@@ -179,6 +196,7 @@ pub refused_runs : (told : Bool) (words : List (List ℕ)) (old : Edges) → wor
 refused_runs told words old faulty = record {
   words_fit = fits (word_faults words) faulty;
   does = λ c s. absurd (faulty (spelled_clean words c s));
+  asks = λ c s. none_asked c;
   session = (refl, refl);
   cause = tt;
 }
@@ -198,6 +216,7 @@ pub unopened_done : (sure : Bool) (c : Command) (error : OpenError) (e : Ending)
 unopened_done sure c open_errors.Fault e old new left moment (is, taken) write fault quiet near broken =
     subst (λ (k : Ending). HasDone sure c (unopened k) old new) (sym is) (record {
       does = inr (refl, record { no_acts = refl; no_replies = refl; no_refused = refl; left = left; clock = moment; ends = taken; quiet = λ not. absurd (not refl) });
+      asks = none_asked c;
       session = (refl, refl);
       cause = (fault refl, near);
       asked = λ e. let bad : ⊥ = cc in bad;
@@ -205,6 +224,7 @@ unopened_done sure c open_errors.Fault e old new left moment (is, taken) write f
 unopened_done sure c open_errors.Memory e old new left moment (is, taken) write fault quiet near broken =
     subst (λ (k : Ending). HasDone sure c (unopened k) old new) (sym is) (record {
       does = inr (refl, record { no_acts = refl; no_replies = refl; no_refused = refl; left = left; clock = inl moment; ends = taken; quiet = λ not. quiet (λ e. let bad : ⊥ = cc in bad) });
+      asks = none_asked c;
       session = (refl, refl);
       cause = tt;
       asked = λ e. let bad : ⊥ = cc in bad;
@@ -212,6 +232,7 @@ unopened_done sure c open_errors.Memory e old new left moment (is, taken) write 
 unopened_done sure c (open_errors.NotStore file at) e old new left moment (inl (is, taken)) write fault quiet near broken =
     subst (λ (k : Ending). HasDone sure c (unopened k) old new) (sym is) (record {
       does = inr (refl, record { no_acts = refl; no_replies = refl; no_refused = refl; left = left; clock = moment; ends = taken; quiet = λ not. quiet (λ e. let bad : ⊥ = cc in bad) });
+      asks = none_asked c;
       session = (refl, refl);
       cause = broken file at refl;
       asked = λ e. let bad : ⊥ = cc in bad;
@@ -219,6 +240,7 @@ unopened_done sure c (open_errors.NotStore file at) e old new left moment (inl (
 unopened_done sure c (open_errors.NotStore file at) e old new left moment (inr (inl (is, taken))) write fault quiet near broken =
     subst (λ (k : Ending). HasDone sure c (unopened k) old new) (sym is) (record {
       does = inr (refl, record { no_acts = refl; no_replies = refl; no_refused = refl; left = left; clock = inl moment; ends = taken; quiet = λ not. quiet (λ e. let bad : ⊥ = cc in bad) });
+      asks = none_asked c;
       session = (refl, refl);
       cause = tt;
       asked = λ e. let bad : ⊥ = cc in bad;
@@ -226,6 +248,7 @@ unopened_done sure c (open_errors.NotStore file at) e old new left moment (inr (
 unopened_done sure c (open_errors.NotStore file at) e old new left moment (inr (inr (is, taken))) write fault quiet near broken =
     subst (λ (k : Ending). HasDone sure c (unopened k) old new) (sym is) (record {
       does = inr (refl, record { no_acts = refl; no_replies = refl; no_refused = refl; left = left; clock = moment; ends = (file, at, broken file at refl, taken); quiet = λ not. quiet (λ e. let bad : ⊥ = cc in bad) });
+      asks = none_asked c;
       session = (refl, refl);
       cause = write is;
       asked = λ e. let bad : ⊥ = cc in bad;

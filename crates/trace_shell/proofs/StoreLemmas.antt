@@ -44,7 +44,7 @@ use Rattle.session_meaning.proofs.CoreSessions.{StandsThrough, shown_ingests, sh
 use Rattle.session_meaning.proofs.StoreSessions.{acts_left, acts_shown, acts_tidy, asks_among, asks_over, store_lists}
 use Rattle.session_meaning.proofs.Unsure.{items_unsure}
 use Rattle.trace_shell.specs.Turn.{CameByLines, CameOver, CameTo, HasDone, IsHeld}
-use Rattle.trace_shell.proofs.RunLemmas.{if_told, in_store, past_is_no_fault}
+use Rattle.trace_shell.proofs.RunLemmas.{if_told, in_store, only_asks, past_is_no_fault}
 
 -- nothing is open in a core whose memory shows a machine
 pub holds_nothing : {D : Type 0} (g : Ghosts D) (core : Core D) (m : Machine) → CoreShows g core m → CoreHolds (shown_by g) core []
@@ -327,6 +327,7 @@ module _ {D : Type 0} (g : Ghosts D) (disk : D) (moment : ℕ) (core : Core D) (
       past,
       in_store sure c outcome old new came,
     );
+    asks = only_asks sure c outcome.first last old.left old.taken (after_moment old.moments) new.left new.taken new.moments e acts replies blamed came;
     session = all;
     cause = cause;
     asked = past_is_no_fault e past;

@@ -32,7 +32,7 @@ use Rattle.session_meaning.specs.Asked.{AreAsked, AsksNext, after_lines, after_m
 use Rattle.session_meaning.specs.Drill.{CameThrough}
 use Rattle.session_meaning.specs.Duties.{Duty, Follows, IsLeft, duties}
 use Rattle.session_meaning.specs.Progress.{HasAnsweredOver, FollowsOver, Progress}
-use Rattle.session_meaning.specs.Runs.{Does, Edges, HasCause, NeedsNoSource, Outcome}
+use Rattle.session_meaning.specs.Runs.{Does, Edges, HasCause, NeedsNoSource, OnlyAsks, Outcome}
 use Rattle.session_meaning.specs.Session.{Ends, EndsAlone, is_for_memory, is_refusal, reply_texts}
 use Rattle.trace_shell.specs.declared.session.Tally.{Tally}
 
@@ -160,6 +160,7 @@ IsRefusedStore (open_errors.NotStore file at) ending old new =
 -- What words ask was done. It is a run, where the words ask this. `told` says that what the blocks of the store hold is told.
 pub record HasDone (told : Bool) (c : Command) (o : Outcome) (old new : Edges) : Type 0 where
   pub does : Does told c o old new
+  pub asks : OnlyAsks c o.acts
   pub session : AreDone told (opened_at o.first) o.acts o.replies o.last
   pub cause : HasCause o.ending old new
   pub asked : o.ending ≢ BadWords
