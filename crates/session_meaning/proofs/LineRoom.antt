@@ -2,7 +2,7 @@
 use Rattle.std.proofs.Common.{◌≡◌, inl, inr, ◌∙◌, true, ℕ, ◌≤◌, List, [], ◌∷◌, ◌++◌, None, Result, Ok, Err, ap, arith, length, refl, sym, subst}
 use Rattle.span_types.specs.Faults.{Rose}
 use Rattle.otlp_spans.specs.declared.read.Reading.{Reading}
-use Rattle.command_words.specs.Commands.{Alone, Command, Ingest as ingest, Session as session, Spells}
+use Rattle.command_words.specs.Commands.{Alone, Command, Drill as drill, Ingest as ingest, Serve as serve, Session as session, Spells}
 use Rattle.session_text.specs.declared.reply.Reply.{Reply}
 use Rattle.session_text.specs.declared.reply.Reply.TheVariants.{Compacted, Cut, CutAll, Flushed, NothingCompacted, NothingFlushed, Refused, Reopened}
 use Rattle.session_text.specs.declared.request.Request.TheVariants as request
@@ -149,6 +149,8 @@ each_with_room front back item earlier later reply first last as_many h well wri
 its_store : (c : Command) (old new : Edges) → GoesWell c old new → HasItsStore old new
 its_store session old new well = well.0
 its_store ingest old new well = well.0
+its_store (serve clients rounds) old new well = well.0
+its_store (drill seed traces) old new well = well.0
 its_store (Alone line) old new well = well.0
 
 some_act : (front back : List Act) (act : Act) → front ++ act ∷ back ≡ [] → ⊥

@@ -218,6 +218,8 @@ Does told c o old new =
 abbrev pub OnlyAsks : Command → List Act → Type 0
 OnlyAsks session acts = ⊤
 OnlyAsks ingest acts = (items : List Item) × (acts ≡ map Ask items)
+OnlyAsks (serve clients rounds) acts = (items : List Item) × (acts ≡ map Ask items)
+OnlyAsks (drill seed traces) acts = (items : List Item) × (acts ≡ map Ask items)
 OnlyAsks (Alone line) acts = (items : List Item) × (acts ≡ map Ask items)
 
 -- ---- how a run may end
