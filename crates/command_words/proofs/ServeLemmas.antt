@@ -1,11 +1,11 @@
 -- The numbers of words that serve clients, and what is told apart by a subcommand's name.
-use Rattle.std.proofs.Common.{◌≡◌, ◌∙◌, ◌<◌, ◌≤◌, ◌^◌, ℕ, Bool, true, false, List, [], Option, Some, None, refl, sym, ap, lit<, arith}
-use Rattle.std.specs.Prelude.{codes, decimal, is_some, option_and_then, option_map}
+use Rattle.std.proofs.Common.{◌≡◌, ◌∙◌, ◌<◌, ◌≤◌, ◌^◌, ℕ, true, false, List, [], Option, Some, None, refl, sym, lit<, arith}
+use Rattle.std.specs.Prelude.{codes, decimal, option_and_then, option_map}
 use Rattle.std.specs.Cmp.Lexicographic.{bytes_decides}
 use Rattle.std.specs.Str.{bytes_eq}
 use Rattle.clap.specs.Walk.{Row, Text, first_of}
 use Rattle.clap.specs.Words.{fault_of, subcommand_of}
-use Rattle.command_words.specs.Numbers.{IsCount, IsNumber, clients_fault, fewest_clients, least_rounds, most_clients, most_rounds, number_fault, numbers_fault, rounds_fault, word_faults}
+use Rattle.command_words.specs.Numbers.{IsCount, IsNumber, clients_fault, fewest_clients, least_rounds, most_clients, most_rounds, numbers_fault, rounds_fault, word_faults}
 use Rattle.command_words.specs.Spelling.{found_value}
 use Rattle.command_words.specs.Table.{words_app}
 use Rattle.command_words.proofs.Numbers.{clean_parts, in_is, none_at_fault, number_there}

@@ -394,15 +394,15 @@ begins_named (w ∷ rest) begins =
 
 -- And words that begin so ask for nothing else.
 pub begins_serves : (words : List Text) (c : Command) → begins_to_serve words ≡ true → Spells words c → (clients rounds : ℕ) × (c ≡ Serve clients rounds)
-begins_serves words c begins asks = go asks
+begins_serves words c begins asks = go c asks
   where
     serves : name_of words ≡ Some (codes "serve")
     serves = begins_named words begins
 
-    go : Spells words c → (clients rounds : ℕ) × (c ≡ Serve clients rounds)
-    go (session is) = absurd (other_name (name_of words) (codes "session") refl (session_name words is) serves)
-    go (serve clients rounds told is count clean few many most) = (clients, rounds, refl)
-    go (ingest is) = absurd (other_name (name_of words) (codes "ingest") refl (ingest_name words is) serves)
-    go (drill seed traces is clean within few many) = absurd (other_name (name_of words) (codes "drill") refl is.name serves)
-    go (trace id is) = absurd (other_name (name_of words) (codes "trace") refl (trace_name words id is) serves)
-    go (search given is clean) = absurd (other_name (name_of words) (codes "search") refl is.name serves)
+    go : (d : Command) → Spells words d → (clients rounds : ℕ) × (d ≡ Serve clients rounds)
+    go d (session is) = absurd (other_name (name_of words) (codes "session") refl (session_name words is) serves)
+    go d (serve c r told is count clean few many most) = (c, r, refl)
+    go d (ingest is) = absurd (other_name (name_of words) (codes "ingest") refl (ingest_name words is) serves)
+    go d (drill seed traces is clean within few many) = absurd (other_name (name_of words) (codes "drill") refl is.name serves)
+    go d (trace id is) = absurd (other_name (name_of words) (codes "trace") refl (trace_name words id is) serves)
+    go d (search given is clean) = absurd (other_name (name_of words) (codes "search") refl is.name serves)

@@ -7,3 +7,6 @@ pub mod IngestLemmas
 pub mod IngestReads
 pub mod IngestEnds
 pub mod DrillLemmas
+pub mod DealingLemmas
+pub mod WritingLemmas
+pub mod ServedLemmas

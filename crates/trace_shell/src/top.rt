@@ -179,13 +179,9 @@ pub fn run<
         → source.new ≡ source.old }
 {
     if !asks_to_serve(words) {
-        return run_alone(
-            rt, alloc, words, source, sink, disk, clock, patterns, gate,
-        );
+        return run_alone(rt, alloc, words, source, sink, disk, clock, patterns, gate);
     }
-    let (ending, disk) = serve_words(
-        rt, alloc, words, source, sink, disk, clock, patterns, gate,
-    );
+    let (ending, disk) = serve_words(rt, alloc, words, source, sink, disk, clock, patterns, gate);
     Ended {
         status: ending.status(),
         disk,
