@@ -26,13 +26,13 @@ use Rattle.session_meaning.proofs.Acts.{asks_session}
 use Rattle.session_meaning.proofs.Room.{replies_plain}
 
 -- As many bytes as were taken are in the text.
-taken_within : (text : List ℕ) (left : Option (List ℕ)) (taken : ℕ) → TakesBytes (Some text) left 0 taken → taken ≤ length text
+pub taken_within : (text : List ℕ) (left : Option (List ℕ)) (taken : ℕ) → TakesBytes (Some text) left 0 taken → taken ≤ length text
 taken_within text None taken took = absurd took.1
 taken_within text (Some xs) taken took =
     let sizes : length text ≡ length took.0 + length xs = ap length took.1 ∙ length-append took.0 xs in
     omega (arith, sizes, took.2)
 
-by_ending : (e : Ending) → (e ≡ BadWords → ⊥) → (e ≡ WriteFault → ⊥) → (e ≡ ReadFault → ⊥) → (e ≡ NotOpened → ⊥) → ((file at : ℕ) → e ≡ NotStore file at → ⊥) → (e ≡ Spent → ⊥) → ComesToItsEnd e
+pub by_ending : (e : Ending) → (e ≡ BadWords → ⊥) → (e ≡ WriteFault → ⊥) → (e ≡ ReadFault → ⊥) → (e ≡ NotOpened → ⊥) → ((file at : ℕ) → e ≡ NotStore file at → ⊥) → (e ≡ Spent → ⊥) → ComesToItsEnd e
 by_ending Answered b w r n x s = inl refl
 by_ending Starved b w r n x s = inr (inl refl)
 by_ending Refused b w r n x s = inr (inr refl)

@@ -35,3 +35,4 @@ mod IngestRounds
 mod DrillLaws
 pub mod IngestParts
 pub mod Following
+mod ServedLaws

@@ -22,3 +22,4 @@ pub mod Runs
 pub mod Stops
 pub mod ServedRuns
 pub mod Progress
+pub mod ServedReplies
