@@ -1,16 +1,17 @@
 -- What is dealt to clients, line by line.
-use Rattle.std.proofs.Common.{◌≡◌, ◌∙◌, ℕ, zero, suc, ◌+◌, ◌<◌, ◌≤◌, ◌==◌, Bool, true, false, List, [], ◌∷◌, ◌++◌, Option, Some, None, ap, append_assoc, append-nil, arith, map, refl, subst, sym}
+use Rattle.std.proofs.Common.{◌≡◌, ◌∙◌, ℕ, zero, suc, ◌+◌, ◌<◌, ◌≤◌, ◌==◌, Bool, true, false, List, [], ◌∷◌, ◌++◌, Option, Some, None, Err, ap, append_assoc, append-nil, arith, length, map, refl, subst, sym}
 use Rattle.std.specs.Prelude.{filter, get_or, replicate, slice_set}
 use Rattle.std.specs.List.{range_with_len}
 use Rattle.std.specs.Io.KnownBytes.{Consumes}
 use Rattle.std.proofs.lemmas.List.Elements.{filter-append}
 use Rattle.std.proofs.lemmas.List.FromFn.{get_or-map-range_with_len}
-use Rattle.io_edges.specs.Lines.{lines}
+use Rattle.io_edges.specs.Lines.{line_limit, lines}
 use Rattle.io_edges.specs.Reader.{IsNextLine, IsToRead, Reader, TakesBytes}
+use Rattle.session_text.specs.declared.refusal.Refusal.TheVariants.{TooLong}
 use Rattle.session_text.specs.Items.{Item}
 use Rattle.session_meaning.specs.declared.ending.Ending.{Ending}
 use Rattle.session_meaning.specs.Asked.{IsNextMoment, after_lines, after_moment}
-use Rattle.session_meaning.specs.Serving.{AreDealt, Dealt, IsDealt, script_of, scripts_of}
+use Rattle.session_meaning.specs.Serving.{AreDealt, Dealt, IsDealt, asks, of_nobody, script_of, scripts_of, too_long}
 use Rattle.session_meaning.proofs.SessionLaws.{after_empty, after_line}
 use Rattle.trace_shell.specs.Dealing.{DealtOn, HasDealt, HasStopped, IsDealingAt, IsGiven}
 use Rattle.trace_shell.specs.Ingesting.{HasReadTo, IsReadingAt}
@@ -222,3 +223,78 @@ module _ (clients : ℕ) (told : Option (List ℕ)) (text : List ℕ) (left_old 
             clock = clock;
             read_to = tt;
           })
+
+-- A line goes to a client that there is.
+pub dealt_within : (clients moment : ℕ) (line : List ℕ) (refused : List (List ℕ)) (dealt : Dealt) → 1 ≤ clients → IsDealt clients moment line refused dealt → dealt.client < clients
+dealt_within clients moment line refused dealt one (asks request short from is) = from.is_one
+dealt_within clients moment line refused dealt one (too_long long is none) = let first : dealt.client ≡ 0 = ap (λ (d : Dealt). d.client) is in omega (arith, first, one)
+dealt_within clients moment line refused dealt one (of_nobody short nobody is none) = let first : dealt.client ≡ 0 = ap (λ (d : Dealt). d.client) is in omega (arith, first, one)
+
+-- ---- what a turn does
+
+module _ (clients : ℕ) (refused : List (List ℕ) → Type 0) (left_old left to_tell_old to_tell : Option (List ℕ)) (reader_old reader : Reader) (scripts_old scripts : List (List Item)) (turn : After) where
+  abbrev pub Deals : Type 0
+  Deals =
+      (more : List (List ℕ)) × refused more × ((told : Option (List ℕ)) (text : List ℕ) (blamed : List (List ℕ))
+      → IsDealingAt clients told text left_old to_tell_old reader_old scripts_old blamed → DealtOn turn clients told text left to_tell reader scripts (blamed ++ more))
+
+  -- Nothing was dealt in it.
+  pub idle_deals : refused [] → ((told : Option (List ℕ)) (text : List ℕ) (blamed : List (List ℕ))
+      → IsDealingAt clients told text left_old to_tell_old reader_old scripts_old blamed → DealtOn turn clients told text left to_tell reader scripts blamed) → Deals
+  idle_deals none on =
+      ([], none, λ told text blamed at. subst (λ (ts : List (List ℕ)). DealtOn turn clients told text left to_tell reader scripts ts) (sym (append-nil blamed)) (on told text blamed at))
+
+  -- A line was read that isn't too long.
+  pub whole_deals : (line : List ℕ) → 1 ≤ clients
+      → (line ≡ [] → (turn ≡ after.Line) × (scripts ≡ scripts_old) × (to_tell ≡ to_tell_old) × refused [])
+      → (0 < length line → (more : List (List ℕ)) × refused more × (moment client : ℕ) × (item : Item) × IsNextMoment to_tell_old moment
+      × IsDealt clients moment line more (record { client = client; item = item }) × (to_tell ≡ after_moment to_tell_old) × IsGiven client item scripts_old scripts turn)
+      → ((rest : List ℕ) → IsToRead reader_old left_old rest → IsNextLine rest line (IsToRead reader left)) → TakesBytes left_old left reader_old.taken reader.taken → Deals
+  whole_deals [] one empty dealt next took =
+      let same = empty refl in
+      idle_deals same.3 (λ told text blamed at.
+      subst (λ (t : After). DealtOn t clients told text left to_tell reader scripts blamed) (sym same.0)
+      (subst (λ (ss : List (List Item)). IsDealingAt clients told text left to_tell reader ss blamed) (sym same.1)
+      (subst (λ (o : Option (List ℕ)). IsDealingAt clients told text left o reader scripts_old blamed) (sym same.2)
+      (empty_dealt clients told text left_old left to_tell_old reader_old reader scripts_old blamed at (next at.at.rest at.at.to_read) took))))
+  whole_deals (b ∷ bs) one empty dealt next took =
+      let d = dealt (omega arith) in
+      let to : Dealt = record { client = d.3; item = d.4 } in (
+        d.0,
+        d.1,
+        λ told text blamed at.
+            line_dealt clients told text left_old left to_tell_old reader_old reader scripts_old blamed at b bs to d.0 d.2 to_tell scripts turn (dealt_within clients d.2 (b ∷ bs) d.0 to one d.6)
+            (next at.at.rest at.at.to_read) took d.5 d.6 d.7 d.8,
+      )
+
+  -- One was read that is.
+  pub long_deals : (size moment : ℕ) → 1 ≤ clients → line_limit < size → refused [] → IsNextMoment to_tell_old moment → to_tell ≡ after_moment to_tell_old
+      → IsGiven 0 (Err (TooLong size)) scripts_old scripts turn
+      → ((rest : List ℕ) → IsToRead reader_old left_old rest → (line : List ℕ) × IsNextLine rest line (IsToRead reader left) × (size ≡ length line))
+      → TakesBytes left_old left reader_old.taken reader.taken → Deals
+  long_deals size moment one long none at_moment later given next took = (
+    [],
+    none,
+    λ told text blamed at.
+        let line = next at.at.rest at.at.to_read in
+        long_line told text blamed at line.0 line.1 line.2,
+  )
+    where
+      long_line : (told : Option (List ℕ)) (text : List ℕ) (blamed : List (List ℕ)) (at : IsDealingAt clients told text left_old to_tell_old reader_old scripts_old blamed) (line : List ℕ)
+          → IsNextLine at.at.rest line (IsToRead reader left) → size ≡ length line → DealtOn turn clients told text left to_tell reader scripts (blamed ++ [])
+      long_line told text blamed at [] is_next as_long = absurd (omega (arith, long, as_long))
+      long_line told text blamed at (b ∷ bs) is_next as_long =
+          let to : Dealt = record { client = 0; item = Err (TooLong size) } in
+          line_dealt clients told text left_old left to_tell_old reader_old reader scripts_old blamed at b bs to [] moment to_tell scripts turn one is_next took at_moment
+          (too_long (subst (λ (n : ℕ). line_limit < n) as_long long) (ap (λ (n : ℕ). record { client = 0; item = Err (TooLong n) }) as_long) refl) later given
+
+-- ---- turns after one another
+
+module _ (clients : ℕ) (told : Option (List ℕ)) (source : Option (List ℕ)) where
+  -- What turns came to, of which this was the last, where the maker refused these texts.
+  abbrev pub HaveDealt : (left to_tell : Option (List ℕ)) → Reader → List (List Item) → After → List (List ℕ) → Type 0
+  HaveDealt left to_tell reader scripts turn blamed = (text : List ℕ) → source ≡ Some text → DealtOn turn clients told text left to_tell reader scripts blamed
+
+  pub dealt_begin : (reader : Reader) (scripts : List (List Item)) → ((text : List ℕ) → IsToRead reader (Some text) text) → reader.taken ≡ 0 → scripts ≡ replicate clients []
+      → HaveDealt source told reader scripts after.Line []
+  dealt_begin reader scripts to_read none_taken none text is = deals_begin clients told text source reader scripts is (to_read text) none_taken none

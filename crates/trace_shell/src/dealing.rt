@@ -1,7 +1,7 @@
 //! The lines of a source are read to its end and dealt to clients, and the requests that keep a store up are written
 //! down behind them. Nothing is asked of a store here.
 
-ghost use Rattle.std.specs.Prelude.{◌≡◌, ◌⊎◌, ◌*◌, ◌<◌, ◌≤◌, ◌++◌, ℕ, List, [], ◌∷◌, Option, Some, Ok, IfErr, IfNone, IfOk, IfSome, MatchResult, OnErr, decimal, length, replicate, vec_capacity, vec_len};
+ghost use Rattle.std.specs.Prelude.{◌≡◌, ◌⊎◌, ◌+◌, ◌*◌, ◌<◌, ◌≤◌, ◌++◌, ℕ, List, [], ◌∷◌, Option, Some, Ok, IfErr, IfNone, IfOk, IfSome, MatchResult, OnErr, decimal, length, replicate, vec_capacity, vec_len};
 ghost use Rattle.span_types.specs.Faults.{Rose};
 ghost use Rattle.io_edges.specs.Lines.{line_limit, taken_limit};
 ghost use Rattle.io_edges.specs.Reader.{TakesBytes, to_come};
@@ -201,13 +201,35 @@ fn number_and_rest(line: &[u8]) -> Option<(u32, &[u8])>
     ensures none { IfNone result ((number : ℕ) (rest : List ℕ) → number < 20
         → line.now ≡ decimal number ++ 32 ∷ rest → ⊥) }
 {
-    if line.len() >= 2 && line[0].is_ascii_digit() && line[1] == b' ' {
-        return Some((u32::from(line[0] - b'0'), &line[2..]));
+    let [first, later @ ..] = line else {
+        return None;
+    };
+    let one = digit_of(*first)?;
+    let [second, after @ ..] = later else {
+        return None;
+    };
+    if *second == b' ' {
+        return Some((one, after));
     }
-    if line.len() >= 3 && line[0] == b'1' && line[1].is_ascii_digit() && line[2] == b' ' {
-        return Some((10 + u32::from(line[1] - b'0'), &line[3..]));
+    if one != 1 {
+        return None;
     }
-    None
+    let two = digit_of(*second)?;
+    let [third, rest @ ..] = after else {
+        return None;
+    };
+    (*third == b' ').then_some((10 + two, rest))
+}
+
+// The decimal digit that a byte is.
+fn digit_of(byte: u8) -> Option<u32>
+    ensures is { IfSome result (λ digit. (digit < 10) × (byte ≡ 48 + digit)) }
+    ensures none { IfNone result ((digit : ℕ) → digit < 10 → byte ≡ 48 + digit → ⊥) }
+{
+    if byte < b'0' || byte > b'9' {
+        return None;
+    }
+    Some(u32::from(byte - b'0'))
 }
 
 // Puts what a client asks behind what it asked before.
