@@ -1,25 +1,37 @@
 -- What follows of several clients that were answered at once.
-use Rattle.std.proofs.Common.{◌≡◌, ◌⊎◌, inl, inr, ◌∙◌, ℕ, zero, suc, ◌+◌, ◌<◌, ◌≤◌, ◌==◌, Bool, true, false, nat_lt, List, [], ◌∷◌, ◌++◌, map, take, length, Option, None, Result, Ok, Err, ap, arith, refl, sym, subst, if◌then◌else◌}
+use Rattle.std.proofs.Common.{◌≡◌, ◌⊎◌, inl, inr, ◌∙◌, ℕ, zero, suc, ◌+◌, ◌<◌, ◌≤◌, ◌==◌, Bool, true, false, max, nat_lt, List, [], ◌∷◌, ◌++◌, map, take, length, Option, None, Result, Ok, Err, ap, arith, refl, sym, subst, if◌then◌else◌}
 use Rattle.std.specs.List.{Contains}
 use Rattle.std.proofs.lemmas.List.{take_all}
 use Rattle.client_run.specs.CoreRuns.{IsCounted, is_fault}
 use Rattle.client_scripts.specs.Numbers.{AreInARow, given_by, given_numbers}
 use Rattle.client_scripts.specs.Scripts as by_script
-use Rattle.client_scripts.specs.Served.{AreServed}
+use Rattle.client_scripts.specs.Served.{AllTold, AreServed}
+use Rattle.client_scripts.specs.Told.{AreTold, IsToldOf, TellsFrom, told_length}
 use Rattle.client_scripts.specs.declared.script.Answered.{Answered}
-use Rattle.client_run.specs.Answers.{pushed_reply}
+use Rattle.client_run.specs.Answers.{IsMetricsTold, IsSearchTold, asked_of, counted_of, pushed_reply, trace_reply}
 use Rattle.io_edges.specs.Lines.{taken_limit}
 use Rattle.io_edges.specs.Reader.{TakesBytes}
 use Rattle.otlp_spans.specs.declared.read.Reading.{Reading}
 use Rattle.port_history.specs.Entries.{Entry, Legal, call_of, own}
+use Rattle.query_fanout.specs.Queries.{Sound}
+use Rattle.query_fanout.specs.SearchAnswers.{IsSearchAnswer}
+use Rattle.query_fanout.specs.TraceAnswers.{IsTraceAnswer}
+use Rattle.query_fanout.specs.declared.error.QueryError.{QueryError}
+use Rattle.query_fanout.specs.declared.searching.Asked.{Asked}
+use Rattle.query_fanout.specs.declared.searching.SearchAnswer.{SearchAnswer}
+use Rattle.query_fanout.specs.declared.trace.TraceAnswer.{TraceAnswer}
 use Rattle.session_text.specs.declared.refusal.Refusal.{Refusal}
 use Rattle.session_text.specs.declared.reply.Reply.{Reply}
 use Rattle.session_text.specs.declared.reply.Reply.TheVariants.{Pushed, Refused}
+use Rattle.session_text.specs.declared.request.Metrics.{Metrics}
+use Rattle.session_text.specs.declared.request.Request.{Request}
 use Rattle.session_text.specs.declared.request.Request.TheVariants as request
+use Rattle.session_text.specs.declared.request.Search.{Search}
+use Rattle.span_types.specs.declared.ids.TraceId.{TraceId}
 use Rattle.session_text.specs.Items.{Item}
 use Rattle.store_entries.specs.declared.entry.Entry.{Entry as Added}
 use Rattle.store_model.specs.Event.{Event as event, Reply as told}
-use Rattle.store_model.specs.History.{History, count_of, push_of, with_entry}
+use Rattle.store_model.specs.History.{History, count_of, push_of, up_to, with_entry}
 use Rattle.store_model.specs.Laws.{Agrees}
 use Rattle.store_model.specs.State.{is_among}
 use Rattle.store_model.specs.Step.{Machine, Step}
@@ -36,10 +48,10 @@ use Rattle.session_meaning.specs.At.{At, history_of}
 use Rattle.session_meaning.specs.Causes.{HasPushCause}
 use Rattle.session_meaning.specs.Pushes.{HasRoomForPush}
 use Rattle.session_meaning.specs.Runs.{ComesToItsEnd, Edges, HasCause, ReadsWell}
-use Rattle.session_meaning.specs.ServedReplies.{AskNothing, IsReplyTo, WasReplied}
+use Rattle.session_meaning.specs.ServedReplies.{AllTellFronts, AskNothing, IsReplyTo, TellFronts, TellsFrontFrom, WasReplied}
 use Rattle.session_meaning.specs.ServedRuns.{EndsServing, IsServedRun, Served}
 use Rattle.session_meaning.specs.Serving.{Ran}
-use Rattle.session_meaning.specs.Session.{IsAnswered, Session}
+use Rattle.session_meaning.specs.Session.{IsAnswered, IsFound, IsTraceIn, Session}
 use Rattle.session_meaning.proofs.AnswerLaws.{session_means}
 use Rattle.session_meaning.proofs.EndLaws.{by_ending, taken_within}
 use Rattle.session_meaning.proofs.PushCauses.{accepted_with_room, refused_for}
@@ -333,6 +345,60 @@ one_session told first last script others answered answers entries ran none agre
     (subst (λ (es : List Entry). by_script.AreItemsAnswered script answered.replies.items (map call_of es)) all
     (subst (λ (is : List Item). by_script.AreItemsAnswered is answered.replies.items (map call_of (own (0 ∷ []) entries))) items ran.served.0.first)))
     ran.lead
+
+-- ---- what was seen
+
+trace_told : (h : History) (least : ℕ) (id : TraceId) (answer : Result TraceAnswer QueryError) → Sound (TellsFrom (IsTraceAnswer id) least h) answer
+    → TellsFrontFrom h least (request.Trace id) (trace_reply answer)
+trace_told h least id (Ok a) (n, over, under, tells) =
+    subst (λ (k : ℕ). (least ≤ k) × (k ≤ count_of h) × IsTraceIn id (up_to k h) a.rows) (sym tells.count) (over, under, tells.firsts)
+trace_told h least id (Err e) sound = tt
+
+found_at : (h : History) (least : ℕ) (asked : Asked) (a : SearchAnswer) → TellsFrom (IsSearchAnswer asked) least h a
+    → (least ≤ a.as_of) × (a.as_of ≤ count_of h) × IsFound asked (up_to a.as_of h) a.results
+found_at h least asked a (n, over, under, tells) =
+    subst (λ (k : ℕ). (least ≤ k) × (k ≤ count_of h) × IsFound asked (up_to k h) a.results) (sym tells.count)
+    (over, under, record { rows = tells.firsts; firsts = tells.are_first; answer = tells.found })
+
+search_told : (h : History) (least : ℕ) (s : Search) (answer : Result SearchAnswer QueryError) (r : Reply) → IsSearchTold (asked_of s) answer r
+    → Sound (TellsFrom (IsSearchAnswer (asked_of s)) least h) answer → TellsFrontFrom h least (request.Search s) r
+search_told h least s (Ok a) r (inl is) sound = subst (λ (x : Reply). TellsFrontFrom h least (request.Search s) x) (sym is) (found_at h least (asked_of s) a sound)
+search_told h least s (Ok a) r (inr is) sound = subst (λ (x : Reply). TellsFrontFrom h least (request.Search s) x) (sym is) tt
+search_told h least s (Err e) r is sound = subst (λ (x : Reply). TellsFrontFrom h least (request.Search s) x) (sym is) tt
+
+metrics_told : (h : History) (least : ℕ) (m : Metrics) (answer : Result SearchAnswer QueryError) (r : Reply) → IsMetricsTold m answer r
+    → Sound (TellsFrom (IsSearchAnswer (counted_of m)) least h) answer → TellsFrontFrom h least (request.Metrics m) r
+metrics_told h least m (Ok a) r (inl (series, are, is)) sound =
+    let found = found_at h least (counted_of m) a sound in
+    subst (λ (x : Reply). TellsFrontFrom h least (request.Metrics m) x) (sym is) (found.0, found.1, (a.results, found.2, are))
+metrics_told h least m (Ok a) r (inr is) sound = subst (λ (x : Reply). TellsFrontFrom h least (request.Metrics m) x) (sym is) tt
+metrics_told h least m (Err e) r is sound = subst (λ (x : Reply). TellsFrontFrom h least (request.Metrics m) x) (sym is) tt
+
+one_told : (h : History) (least : ℕ) (asked : Request) (r : Reply) → IsToldOf h least asked r → TellsFrontFrom h least asked r
+one_told h least (request.Trace id) r (answer, is, sound) = subst (λ (x : Reply). TellsFrontFrom h least (request.Trace id) x) (sym is) (trace_told h least id answer sound)
+one_told h least (request.Search s) r (answer, is, sound) = search_told h least s answer r is sound
+one_told h least (request.Metrics m) r (answer, is, sound) = metrics_told h least m answer r is sound
+one_told h least (request.Push reading moment) r told = tt
+one_told h least (request.Cut moment) r told = tt
+one_told h least request.CutAll r told = tt
+one_told h least request.Flush r told = tt
+one_told h least request.Compact r told = tt
+one_told h least request.Reclaim r told = tt
+
+fronts_told : (h : History) (least : ℕ) (items : List Item) (replies : List Reply) → AreTold h least items replies → TellFronts h least items replies
+fronts_told h least [] replies told = tt
+fronts_told h least (item ∷ items) [] told = tt
+fronts_told h least (Err why ∷ items) (r ∷ replies) told = fronts_told h least items replies told
+fronts_told h least (Ok asked ∷ items) (r ∷ replies) (one, rest) = (one_told h least asked r one, fronts_told h (max least (told_length r)) items replies rest)
+
+all_fronts : (h : History) (least : ℕ) (scripts : List (List Item)) (answers : List Answered) → AllTold h least scripts answers → AllTellFronts h least scripts answers
+all_fronts h least [] answers told = tt
+all_fronts h least (script ∷ scripts) [] told = tt
+all_fronts h least (script ∷ scripts) (answered ∷ answers) (one, rest) = (fronts_told h least script answered.replies.items one, all_fronts h least scripts answers rest)
+
+pub seen_counts : (first last : At) (scripts : List (List Item)) (answers : List Answered) (entries : List Entry) → Ran true first scripts answers entries last
+    → AllTellFronts (history_of last) (count_of (history_of first)) scripts answers
+seen_counts first last scripts answers entries ran = all_fronts (history_of last) (count_of (history_of first)) scripts answers (ran.seen refl)
 
 -- ---- how a run ends
 

@@ -23,5 +23,5 @@ pub use laws::{
 };
 pub use serving_laws::{
     numbers_are_given_once, one_script_is_a_session, pushes_of_clients_have_their_causes,
-    serving_comes_to_an_end,
+    serving_comes_to_an_end, what_was_seen_counts,
 };

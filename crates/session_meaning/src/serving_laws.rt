@@ -2,7 +2,7 @@
 //!
 //! Each function has an empty body: its contract is the statement, and its proof stands in `proofs/serving_laws/`.
 
-ghost use Rattle.std.specs.Prelude.{Bool, ◌≡◌, ◌∷◌, ◌++◌, List, Ok, false, length, map, ℕ};
+ghost use Rattle.std.specs.Prelude.{Bool, ◌≡◌, ◌∷◌, ◌++◌, List, Ok, true, false, length, map, ℕ};
 ghost use Rattle.client_scripts.specs.declared.script.Answered.{Answered};
 ghost use Rattle.client_scripts.specs.Numbers.{AreInARow, given_numbers};
 ghost use Rattle.otlp_spans.specs.declared.read.Reading.{Reading};
@@ -19,7 +19,7 @@ ghost use Rattle.session_meaning.specs.At.{At, history_of};
 ghost use Rattle.session_meaning.specs.Causes.{HasPushCause};
 ghost use Rattle.session_meaning.specs.Pushes.{HasRoomForPush};
 ghost use Rattle.session_meaning.specs.Runs.{ComesToItsEnd, Edges, ReadsWell};
-ghost use Rattle.session_meaning.specs.ServedReplies.{AskNothing, WasReplied};
+ghost use Rattle.session_meaning.specs.ServedReplies.{AllTellFronts, AskNothing, WasReplied};
 ghost use Rattle.session_meaning.specs.ServedRuns.{IsServedRun, Served};
 ghost use Rattle.session_meaning.specs.Serving.{Ran};
 ghost use Rattle.session_meaning.specs.Session.{Session};
@@ -55,6 +55,15 @@ pub fn pushes_of_clients_have_their_causes()
         × (map call_of entries ≡ calls ++ later) × CallsLead first calls before
         × HasRoomForPush (length reading.batch.spans) before.machine
         × (number ≡ count_of (history_of before)) }
+{}
+
+/// What a client was told of counts in what it is told later: each query covers all pushes of the first history, each
+/// push of its client that was accepted before, and all that its client's earlier queries covered. It tells just what
+/// that front of the last history has.
+pub fn what_was_seen_counts()
+    ensures { (first last : At) (scripts : List (List Item)) (answers : List Answered)
+        (entries : List Entry) → Ran true first scripts answers entries last
+        → AllTellFronts (history_of last) (count_of (history_of first)) scripts answers }
 {}
 
 /// One script that is answered to its end beside others that ask nothing is a session.
