@@ -62,7 +62,7 @@ pub(crate) struct Filed {
     info: BlockInfo,
 }
 
-/// The block in a file, where it was checked: it has this layout by what was built, and by its bytes.
+/// The block in a file, after it was checked: it has this layout by what was built, and by its bytes.
 pub(crate) fn checked(
     rt: &(impl Abort + AllocGlobal),
     built: BuiltBlock,

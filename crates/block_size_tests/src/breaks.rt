@@ -46,7 +46,7 @@ const BLOOM: u64 = 196_608;
 
 const END: u64 = 200_704;
 
-/// What is told of a block, where an offset is told of other bytes.
+/// What is told of a block, as an offset is told of other bytes.
 const SOUND: u64 = 9_999_999;
 
 /// The rows of so many traces: 2, 4 and so on.
@@ -84,7 +84,7 @@ fn block(rt: &(impl Abort + AllocGlobal)) -> Vec<u8> {
     bytes
 }
 
-/// The offset at which these bytes are no such block, or that they are one. None where memory runs out.
+/// The offset at which these bytes are no such block, or that they are one. None if memory runs out.
 fn told(alloc: Global, bytes: &[u8]) -> Option<u64> {
     match check_bytes(alloc, FILE, LEVEL, 2049, bytes) {
         Ok(_) => Some(SOUND),

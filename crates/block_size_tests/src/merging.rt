@@ -152,7 +152,7 @@ fn joined(rt: &(impl Abort + AllocGlobal), blocks: &[u64]) -> Rows {
     Rows::of(all)
 }
 
-/// The block of the rows of these blocks, where they are sorted as a whole.
+/// The block of the rows of these blocks, sorted as a whole.
 fn sorted(rt: &(impl Abort + AllocGlobal), blocks: &[u64]) -> Filed {
     let rows = joined(rt, blocks);
     assert!(rt; rows.len() == 262_144);

@@ -114,7 +114,7 @@ static FIRST_SLOT: [Case; 24] = [
     (0, Change::Raised, 18, 22, Told::At(46)),
     // A third block begins at 60: its file is 2, its level 4, and its rows end after the file. A third loose file is missing.
     (0, Change::Raised, 22, 30, Told::At(68)),
-    // The segment is file 7 or above, where the next file is 7. It begins above the floor.
+    // The segment is file 7 or above, and the next file is 7. It begins above the floor.
     (0, Change::Raised, 30, 34, Told::At(30)),
     (0, Change::Raised, 34, 42, Told::At(34)),
     // The first block is file 4, which is loose at 64; and then the next file or above.
@@ -157,11 +157,11 @@ static SECOND_SLOT: [Case; 30] = [
     (1, Change::Raised, 30, 31, Told::At(42)),
     (1, Change::Raised, 31, 34, Told::At(30)),
     (1, Change::Raised, 34, 42, Told::At(34)),
-    // The block is file 8 or above, where the next file is 8.
+    // The block is file 8 or above, and the next file is 8.
     (1, Change::Raised, 42, 46, Told::At(42)),
     // A level of 2.
     (1, Change::Raised, 46, 47, Told::Opens),
-    // 3, 258 and 65,538 rows, where the block has 2; and 16,777,218 are too many.
+    // 3, 258 and 65,538 rows, but the block has 2; and 16,777,218 are too many.
     (1, Change::Raised, 47, 50, Told::First(7)),
     (1, Change::Raised, 50, 51, Told::At(47)),
     // The loose files are 3, 4, 3 and 5: the second 3 stands at 59.

@@ -112,7 +112,7 @@ fn plays<P: Port>(alloc: Global, port: &mut P, steps: &[Step]) -> Played
     }
 }
 
-/// How a script goes in the store that a disk holds, none where it isn't opened, and the disk.
+/// How a script goes in the store that a disk holds, none if it isn't opened, and the disk.
 pub(crate) fn played_on<D: Device>(alloc: Global, disk: D, steps: &[Step]) -> (Option<Played>, D) {
     match Core::open_store(alloc, disk, 7) {
         Ok(core) => {
@@ -130,7 +130,7 @@ pub(crate) fn is_fine(played: Option<Played>) -> bool {
     matches!(played, Some(Played { is_fine: true, .. }))
 }
 
-/// The disk of a new store after these steps. None where one of them is answered otherwise.
+/// The disk of a new store after these steps. None if one of them is answered otherwise.
 pub(crate) fn made(alloc: Global, steps: &[Step]) -> Option<MemDisk> {
     let (played, disk) = played_on(alloc, MemDisk::empty(alloc), steps);
     is_fine(played).then_some(disk)

@@ -71,7 +71,7 @@ fn odd_disk(alloc: Global, length: u64) -> Result<OddDisk, Fail> {
     Ok(OddDisk::new(0, chunks))
 }
 
-/// What a look-up finds where there are so many entries: all, or that the block is none. It is file 3, and its one stripe begins at
+/// What a look-up finds if there are so many entries: all, or that the block is none. It is file 3, and its one stripe begins at
 /// byte 4,096.
 fn wanted(entries: u64, broken: Option<u64>) -> Found {
     match broken {

@@ -3,6 +3,8 @@
 #![tactic(auto)]
 
 #[cfg(test)]
+mod changed_tests;
+#[cfg(test)]
 mod reopen_tests;
 #[cfg(test)]
 mod run_tests;

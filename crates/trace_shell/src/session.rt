@@ -313,13 +313,20 @@ fn reopen<D: Device>(alloc: Global, store: Store<D>, moment: u64) -> (Reply, Sto
     ensures held { IsHeld D.Device.own result.1 }
 {
     let (store, again) = store.reopen(alloc, moment);
-    let reply = match again {
+    let reply = reopened(again);
+    (reply, store)
+}
+
+// What a reopening is told.
+fn reopened(again: Result<u64, OpenError>) -> Reply
+    ensures { result ≡ reopened_reply again }
+{
+    match again {
         Ok(entries) => Reply::Reopened { entries },
         Err(OpenError::Fault) => Reply::Refused(Refusal::DiskFault),
         Err(OpenError::NotStore { file, at }) => Reply::Refused(Refusal::NotStore { file, at }),
         Err(OpenError::Memory) => Reply::Refused(Refusal::Memory),
-    };
-    (reply, store)
+    }
 }
 
 // Refuses a line of so many bytes, which are too many, and writes the reply. In a closed store it isn't read, like any
@@ -342,11 +349,18 @@ fn refuse_line<K: Sink, D: Device, C: Clock>(
 {
     // A line that is refused unread takes a moment of the clock like any other.
     let _moment = clock.now();
-    let reply = match store {
+    let reply = refused_long(store, length);
+    write(alloc, tally, sink, &reply)
+}
+
+// How a line of so many bytes, which are too many, is refused.
+fn refused_long<D: Device>(store: &Store<D>, length: u64) -> Reply
+    ensures { result ≡ refused_long store.now length }
+{
+    match store {
         Store::Open(_) => Reply::Refused(Refusal::TooLong { length }),
         Store::Closed(_) => Reply::Refused(Refusal::Closed),
-    };
-    write(alloc, tally, sink, &reply)
+    }
 }
 
 // Answers a line that was read at this moment, in nanoseconds.

@@ -1,5 +1,9 @@
-use Rattle.std.proofs.Common.{[], ◌++◌, ap, refl, subst, arith}
+use Rattle.std.proofs.Common.{◌≡◌, [], ◌++◌, Option, ap, refl, subst, arith}
+use Rattle.std.specs.Prelude.{IfSome}
+use Rattle.io_edges.specs.Lines.{taken_limit}
 use Rattle.io_edges.specs.Reader.{TakesBytes}
+use Rattle.session_meaning.specs.declared.ending.Ending.{Ending}
+use Rattle.session_meaning.specs.declared.ending.Ending.TheVariants.{Spent}
 use Rattle.session_meaning.proofs.StoreSessions.{done_over_then}
 use Rattle.traceql_types.proofs.Calls.{refuses-none, refuses-on}
 use Rattle.trace_shell.specs.Turn.{Turned}
@@ -47,7 +51,8 @@ lines-preserved g c =
 
 pub returns-in-Some-clause-spent : goal.returns-in-Some-clause-spent
 returns-in-Some-clause-spent g c = λ is.
-    subst (λ n. TakesBytes (g.S.Source.left c.args.source.now) (g.S.Source.left c.next_line-ended.new.source) 0 n) (c.in-Some.ensures.spent is)
+    subst (λ n. TakesBytes (g.S.Source.left c.args.source.now) (g.S.Source.left c.next_line-ended.new.source) 0 n)
+    (subst (λ (o : Option Ending). IfSome o (λ ending. ending ≡ Spent → c.next_line-ended.new.reader.taken ≡ taken_limit)) c.in-Some.is c.next_line-ended.ensures.spent is)
     (took_on _ _ _ 0 c.lines.reader.taken c.next_line-ended.new.reader.taken c.lines.invariant.took c.next_line-ended.ensures.took)
 
 pub returns-in-Some-clause-ran : goal.returns-in-Some-clause-ran

@@ -1,10 +1,9 @@
 //! A block that changes while its store is open: what a search is told whose reads give another length of the block's stripe than was
 //! written, by docs/BLOCK-FORMAT.md.
 
-use crate::script::filled;
 use disk_model::{ByteLists, Device, MemDisk, OddDisk};
 use io_edges::{FixedClock, MemSink, OpenGate};
-use run_support::{all_words, calls, session_on, source_of};
+use run_support::{PUSH_X, PUSHED_0, all_words, calls, session_on, source_of};
 use span_types::{Bytes, Memory, Moments};
 use std::alloc::{AllocError, Global};
 use std::process::Abort;
@@ -14,8 +13,27 @@ use std::thread::Threads;
 use trace_shell::{Ended, run};
 use traceql_types::RegexMaker;
 
-/// The lines that make a block of one span, search in it, and push again.
-const LINES: &str = "$x\ncutall\nflush\nsearch { }\n$y\n";
+/// The lines that make a block of the span of `PUSH_X`.
+const FLUSHED: &str = "$x\ncutall\nflush\n";
+
+/// The lines that then search in it, and push again.
+const LATER: &str = "search { }\n$x\n";
+
+/// What a search finds in the block as it was written.
+const FOUND: &str =
+    r#"{"traces":[{"durationNanos":"1","rootName":"x","rootService":null,"spanSets":[{"by":[],"matched":1,"spans":[{"attributes":[],"durationNanos":"1","name":"x","spanId":"00000000000000b1","startTimeUnixNano":"1"}]}],"startTimeUnixNano":"1","traceId":"000000000000000000000000000000a1"}]}"#;
+
+/// The words, and what they stand for.
+static WORDS: [(&str, &str); 3] = [("$x", PUSH_X), ("$0", PUSHED_0), ("$found", FOUND)];
+
+/// A text with what its words stand for.
+fn filled(alloc: Global, text: &str) -> Result<String, AllocError> {
+    let mut all = String::from_str(alloc, text)?;
+    for (word, meaning) in &WORDS {
+        all = all.replace(alloc, *word, meaning)?;
+    }
+    Ok(all)
+}
 
 /// A length of the stripe, what the search is told then, and the status.
 type Case = (u64, &'static str, u8);
@@ -43,7 +61,7 @@ static PAGES: [u64; 3] = [1, 3, 2];
 
 // A disk with a store of one block.
 fn with_block<R: Threads + Wait + Sync>(rt: &R, alloc: Global) -> Result<MemDisk, Memory> {
-    let input = filled(alloc, "$x\ncutall\nflush\n")?;
+    let input = filled(alloc, FLUSHED)?;
     let mut disk = MemDisk::empty(alloc);
     session_on(rt, alloc, &mut disk, input.as_str())?;
     Ok(disk)
@@ -100,11 +118,18 @@ fn writes_on<R: Threads + Wait + Sync>(
     Ok(sink.taken() == wanted.0.as_bytes() && status == wanted.1)
 }
 
+// The lines of the session.
+fn lines(alloc: Global) -> Result<String, AllocError> {
+    let mut text = String::from_str(alloc, FLUSHED)?;
+    text.push_str(LATER)?;
+    filled(alloc, text.as_str())
+}
+
 // What the session writes in which the search is told this: the push after it is accepted all the same.
 fn replies(alloc: Global, told: &str) -> Result<String, AllocError> {
-    let mut text = String::from_str(alloc, "$0$moved$flushed")?;
+    let mut text = String::from_str(alloc, "$0ok cutall moved=1\nok flush rows=1\n")?;
     text.push_str(told)?;
-    text.push_str("$1")?;
+    text.push_str("ok push 1 accepted=1 rejected=0 skipped=0\n")?;
     filled(alloc, text.as_str())
 }
 
@@ -115,7 +140,7 @@ fn check_case<R: Threads + Wait + Sync + Abort + AllocGlobal>(
     chunks: ByteLists,
     case: &Case,
 ) {
-    let input = filled(rt.alloc(), LINES).expect(rt, "memory");
+    let input = lines(rt.alloc()).expect(rt, "memory");
     let text = replies(rt.alloc(), case.1).expect(rt, "memory");
     let wanted = (text.as_str(), case.2);
     let disk = OddDisk::new(0, chunks);
