@@ -92,12 +92,12 @@ module _ (sure : Bool) (words : List (List ℕ)) (o : Outcome) (old new : Edges)
   run_ends (drill seed traces) s well =
       by_ending o.ending (not_bad sure words (drill seed traces) o old new s run)
       (λ is. well.1 (caused WriteFault is))
-      (λ is. without_source ReadFault is (λ d. d) (λ s. let bad : ⊥ = cc in bad) (λ u. u))
+      (λ is. drilled_so ReadFault is (λ d. d) (λ s. let bad : ⊥ = cc in bad) (λ u. u))
       (opens well.0) (is_store well.0)
-      (λ is. without_source Spent is (λ d. d) (λ s. let bad : ⊥ = cc in bad) (λ u. u))
+      (λ is. drilled_so Spent is (λ d. d) (λ s. let bad : ⊥ = cc in bad) (λ u. u))
     where
-      without_source : (e : Ending) → o.ending ≡ e → (EndsDrilling e o.replies old.taken new.taken → ⊥) → (Starved ≡ e → ⊥) → (EndsUnopened e old new.taken → ⊥) → ⊥
-      without_source e is none other unopened = elim (run.does (drill seed traces) s) [
+      drilled_so : (e : Ending) → o.ending ≡ e → (EndsDrilling e o.replies old.taken new.taken → ⊥) → (Starved ≡ e → ⊥) → (EndsUnopened e old new.taken → ⊥) → ⊥
+      drilled_so e is none other unopened = elim (run.does (drill seed traces) s) [
         | inl did ↦ ends_elsewhere seed traces e o.ending (after_moment old.moments) did.3.items o.replies o.refused new.moments old.taken new.taken none other did.3.came is
         | inr not ↦ unopened (subst (λ (k : Ending). EndsUnopened k old new.taken) is not.1.ends)
       ]

@@ -1,5 +1,6 @@
 -- How the parts of a drill follow one another, what it counts, and what it writes.
-use Rattle.std.proofs.Common.{◌≡◌, ◌⊎◌, inl, inr, ◌∙◌, ℕ, zero, suc, ◌+◌, ◌-◌, ◌<◌, ◌≤◌, min, Bool, true, false, ◌||◌, List, [], ◌∷◌, ◌++◌, Option, Some, None, Ok, length, take, drop, map, length-append, append_assoc, append-nil, refl, sym, ap, ap₂, subst, arith, if◌then◌else◌}
+use Rattle.std.proofs.Common.{◌≡◌, ◌⊎◌, inl, inr, ◌∙◌, ℕ, zero, suc, ◌+◌, ◌-◌, ◌<◌, ◌≤◌, min, Bool, true, false, ◌||◌, List, [], ◌∷◌, ◌++◌, Option, Some, None, Result, Ok, Err, length, take, drop, map, length-append, append_assoc, append-nil, refl, sym, ap, ap₂, string_bytes, subst, arith, if◌then◌else◌}
+use Rattle.std.specs.Prelude.{OnErr}
 use Rattle.std.specs.List.{list_any}
 use Rattle.std.specs.Io.KnownBytes.{Appends}
 use Rattle.std.proofs.lemmas.List.{take-append-le, take_all}
@@ -10,6 +11,7 @@ use Rattle.session_text.specs.declared.reply.Reply.{Reply}
 use Rattle.session_text.specs.declared.request.Request.{Request}
 use Rattle.session_text.specs.declared.request.Request.TheVariants.{Compact, CutAll, Flush, Reclaim}
 use Rattle.session_text.specs.Items.{Item}
+use Rattle.session_text.specs.Replies.{reply_text}
 use Rattle.session_text.specs.Requests.{AsksPush}
 use Rattle.store_core.specs.Port.{port_of}
 use Rattle.store_core.specs.declared.store.Core.{Core}
@@ -24,8 +26,10 @@ use Rattle.session_meaning.specs.Ingest.{AreJoined, is_joined}
 use Rattle.session_meaning.specs.Progress.{HasAnsweredOne, HasAnsweredOver}
 use Rattle.session_meaning.specs.Session.{end_of, is_for_memory, is_refusal, reply_texts}
 use Rattle.session_meaning.proofs.SessionLaws.{over_begins, over_one, over_then}
-use Rattle.trace_shell.specs.Drilling.{CountsOn, CountsOne, EndsCounted, HasMade, HasTold, told_text}
+use Rattle.trace_shell.specs.Drilling.{CountsOn, CountsOne, EndsCounted, HasMade, HasTold, all_texts, found_replies, told_text}
 use Rattle.trace_shell.specs.declared.drilling.Counts.{Counts}
+use Rattle.trace_shell.specs.declared.drilling.Found.{Found}
+use Rattle.trace_shell.specs.declared.drilling.Texts.{Texts}
 
 -- ---- what is counted
 
@@ -115,10 +119,10 @@ end_counted e rs new on ends = go e ends (any_refused rs) (any_starved rs)
     go Refused h (inr (is_none, zero_told)) s = absurd (omega (arith, h, refused_is, zero_told))
     go Starved h (inl (some, many)) s = let first = h.0 in absurd (omega (arith, first, refused_is, many))
     go Starved h (inr (is_none, zero_told)) (inl (some, many)) = rw (is_none, some) refl
-    go Starved h (inr (is_none, zero_told)) (inr (no, nothing)) = let second = h.1 in absurd (omega (arith, second, starved_is, nothing))
+    go Starved h (inr (is_none, zero_told)) (inr (all_fine, nothing)) = let second = h.1 in absurd (omega (arith, second, starved_is, nothing))
     go Answered h (inl (some, many)) s = let first = h.0 in absurd (omega (arith, first, refused_is, many))
     go Answered h (inr (is_none, zero_told)) (inl (some, many)) = let second = h.1 in absurd (omega (arith, second, starved_is, many))
-    go Answered h (inr (is_none, zero_told)) (inr (no, nothing)) = rw (is_none, no) refl
+    go Answered h (inr (is_none, zero_told)) (inr (all_fine, nothing)) = rw (is_none, all_fine) refl
     go WriteFault h r s = absurd h
     go BadWords h r s = absurd h
     go ReadFault h r s = absurd h
@@ -157,6 +161,18 @@ pub prefix_here : (old new : Option (List ℕ)) (xs ys : List ℕ) → AppendsPr
 prefix_here old new xs ys (count, first) =
     let more = take_front xs ys count in (more.0, subst (λ (bs : List ℕ). Appends old new bs) (sym more.1) first)
 
+-- Four texts one after another.
+pub four_whole : (s t u v w : Option (List ℕ)) (a b c d : List ℕ) → Appends s t a → Appends t u b → Appends u v c → Appends v w d → Appends s w (a ++ (b ++ (c ++ (d ++ []))))
+four_whole s t u v w a b c d one two three four =
+    appends_then s t w a (b ++ (c ++ (d ++ []))) one
+    (appends_then t u w b (c ++ (d ++ [])) two
+    (appends_then u v w c (d ++ []) three (subst (λ (bs : List ℕ). Appends v w bs) (sym (append-nil d)) four)))
+
+-- What is said of a failed call is said of a result whatever it is.
+pub on_err_any : {T E P : Type 0} (r : Result T E) → P → OnErr r P
+on_err_any (Ok x) h = tt
+on_err_any (Err e) h = h
+
 -- Of replies behind others the last three are these.
 past_front : (xs ys : List Reply) → drop (length xs) (xs ++ ys) ≡ ys
 past_front [] ys = refl
@@ -194,6 +210,11 @@ told_ends e rs front found new old taken on are three = go e
     go NotOpened h = absurd h
     go (NotStore file at) h = absurd h
     go Spent h = absurd h
+
+-- The four texts are the text of the counts and of what was found.
+pub texts_told : (t : Texts) (counts : Counts) (found : Found) → string_bytes t.report ≡ drilled_text counts.pushes counts.accepted counts.refused counts.starved
+    → t.errors ≡ reply_text found.errors → t.large ≡ reply_text found.large → t.crossing ≡ reply_text found.crossing → all_texts t ≡ told_text counts (found_replies found)
+texts_told t counts found report errors large crossing = rw (report, errors, large, crossing) refl
 
 -- All was written.
 pub told_all : (e : Ending) (new : Counts) (found : List Reply) (old taken : Option (List ℕ)) → EndsCounted e new → Appends old taken (told_text new found) → HasTold e new found old taken

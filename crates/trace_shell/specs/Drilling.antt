@@ -1,5 +1,5 @@
 -- Private mechanism of a drill: what it counts and tells. A run is specified in session_meaning.
-use Rattle.std.specs.Prelude.{◌≡◌, ◌⊎◌, ◌+◌, ◌<◌, ◌++◌, ℕ, List, [], ◌∷◌, Option, length}
+use Rattle.std.specs.Prelude.{◌≡◌, ◌⊎◌, ◌+◌, ◌<◌, ◌++◌, ℕ, List, [], ◌∷◌, Option, length, string_bytes}
 use Rattle.std.specs.Io.KnownBytes.{Appends}
 use Rattle.disk_model.specs.declared.disk.Device.{Ghosts}
 use Rattle.io_edges.specs.Devices.{AppendsPrefix}
@@ -14,6 +14,7 @@ use Rattle.session_meaning.specs.Progress.{HasAnsweredOver}
 use Rattle.session_meaning.specs.Session.{is_for_memory, is_refusal, reply_texts}
 use Rattle.trace_shell.specs.declared.drilling.Counts.{Counts}
 use Rattle.trace_shell.specs.declared.drilling.Found.{Found}
+use Rattle.trace_shell.specs.declared.drilling.Texts.{Texts}
 
 -- ---- what is counted
 
@@ -41,6 +42,10 @@ pub record HasMade {D : Type 0} (g : Ghosts D) (before after : Core D) (old new 
 -- The replies to the three searches, in order.
 abbrev pub found_replies : Found → List Reply
 found_replies found = found.errors ∷ found.large ∷ found.crossing ∷ []
+
+-- the four texts of a drill, one after another
+abbrev pub all_texts : Texts → List ℕ
+all_texts t = string_bytes t.report ++ (t.errors ++ (t.large ++ (t.crossing ++ [])))
 
 -- how a drill ends with these counts that writes all
 abbrev pub EndsCounted : Ending → Counts → Type 0

@@ -2,7 +2,7 @@
 //! each 64th and after the last, blocks are compacted, loose files emptied, and three searches asked. Replies are
 //! counted, and nothing is written before the end: then the counts, and the replies to the searches.
 
-ghost use Rattle.std.specs.Prelude.{◌≡◌, ◌⊎◌, ◌+◌, ◌<◌, ◌≤◌, ◌++◌, ℕ, List, [], ◌∷◌, true, false, codes, length, map, Ok, IfErr, IfOk, MatchResult, OnErr, string_bytes};
+ghost use Rattle.std.specs.Prelude.{◌≡◌, ◌⊎◌, ◌+◌, ◌<◌, ◌≤◌, ◌++◌, ℕ, List, [], ◌∷◌, true, false, codes, length, map, Ok, IfErr, IfOk, MatchResult, OnErr, OnOk, string_bytes};
 ghost use Rattle.std.specs.Io.KnownBytes.{Appends};
 ghost use Rattle.io_edges.specs.Devices.{AppendsPrefix};
 ghost use Rattle.span_types.specs.Faults.{Rose};
@@ -21,7 +21,7 @@ ghost use Rattle.session_meaning.specs.Ingest.{AreJoined, is_joined};
 ghost use Rattle.session_meaning.specs.Progress.{HasAnsweredOver};
 ghost use Rattle.session_meaning.specs.Session.{is_for_memory, is_refusal, reply_texts};
 ghost use Rattle.traceql_types.specs.Makers.{RefusesOnly};
-ghost use Rattle.trace_shell.specs.Drilling.{CountsOne, EndsCounted, HasMade, HasTold, found_replies};
+ghost use Rattle.trace_shell.specs.Drilling.{CountsOne, EndsCounted, HasMade, HasTold, all_texts, found_replies};
 
 use crate::ingesting::{is_joined, push};
 use crate::session::{CLIENT, answer, is_for_memory, is_refusal};
@@ -143,7 +143,7 @@ fn starved_of(reply: &Reply) -> u64
 }
 
 /// The replies to the three searches.
-#[derive(Debug, Drop)]
+#[derive(Drop)]
 pub(crate) struct Found {
     /// Traces with a span that failed.
     errors: Reply,
@@ -393,7 +393,7 @@ fn search<D: Device, C: Clock, P: PatternMaker, G: Gate>(
 }
 
 // The four texts of a drill.
-#[derive(Debug, Drop)]
+#[derive(Drop)]
 struct Texts {
     report: String,
     errors: Text,
@@ -440,11 +440,9 @@ fn texts_of(alloc: Global, counts: Counts, found: &Found) -> Result<Texts, Memor
 
 // Writes the texts, each by one put.
 fn put_all<K: Sink>(sink: &mut K, texts: &Texts) -> Result<(), Failed>
-    ensures written { MatchResult result
-        (λ _. Appends (K.taken sink.old) (K.taken sink.new) (string_bytes texts.now.report
-        ++ (texts.now.errors ++ (texts.now.large ++ (texts.now.crossing ++ [])))))
-        (λ _. AppendsPrefix (K.taken sink.old) (K.taken sink.new) (string_bytes texts.now.report
-        ++ (texts.now.errors ++ (texts.now.large ++ (texts.now.crossing ++ []))))) }
+    ensures whole { OnOk result (Appends (K.taken sink.old) (K.taken sink.new) (all_texts texts.now)) }
+    ensures part { OnErr result (AppendsPrefix (K.taken sink.old) (K.taken sink.new)
+        (all_texts texts.now)) }
     ensures failed { OnErr result (Rose (K.faults sink.old) (K.faults sink.new)) }
 {
     sink.put(texts.report.as_str().as_bytes())?;

@@ -16,7 +16,7 @@ rounds-preserved g c =
     let once = c.compact_once-joins-in-rounds.ensures in
     let sizes = so_far.5 in
     let count = so_far.6 in
-    let is = sym so_far.7 ∙ c.if-joins.true in
+    let is = sym so_far.7 ∙ c.if-not-joins.false in
     let items = length-append so_far.0 (Ok Compact ∷ []) in
     let replies = length-append so_far.1 (so_far.2 ∷ []) in record {
       made = (
@@ -32,10 +32,10 @@ rounds-preserved g c =
       holds = made_holds g.D.Device _ _ _ _ _ _ once.2 c.rounds.invariant.holds;
     }
 
-pub returns-then-joins : goal.returns-then-joins
-returns-then-joins g c =
+pub returns-then-not-joins : goal.returns-then-not-joins
+returns-then-not-joins g c =
     let so_far = c.rounds.invariant.made in
-    (so_far.0, so_far.1, so_far.2, so_far.3, so_far.4, so_far.5, inl (sym so_far.7 ∙ c.if-joins.false))
+    (so_far.0, so_far.1, so_far.2, so_far.3, so_far.4, so_far.5, inl (sym so_far.7 ∙ c.if-not-joins.true))
 
 pub returns : goal.returns
 returns g c =

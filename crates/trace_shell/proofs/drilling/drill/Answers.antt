@@ -7,16 +7,16 @@ use Rattle.trace_shell.specs.declared.drilling.Counts.{Counts}
 use Rattle.trace_shell.proofs.DrillLemmas.{found_last, made_holds, made_then, told_ends}
 use Rattle.trace_shell.proofs.drilling.drill.Goals as goal
 
-pub compact_all-requires : goal.compact_all-requires
-compact_all-requires g c = made_holds g.D.Device _ _ _ _ _ _ c.in-Ok.ensures.2 c.requires
+pub compact_all-requires-after_bounds : goal.compact_all-requires-after_bounds
+compact_all-requires-after_bounds g c = λ κs outlives. made_holds g.D.Device _ _ _ _ _ _ c.in-Ok.ensures.2 c.requires
 
-pub ask-_emptied-requires : goal.ask-_emptied-requires
-ask-_emptied-requires g c =
+pub ask-emptied-requires-after_bounds : goal.ask-emptied-requires-after_bounds
+ask-emptied-requires-after_bounds g c = λ κs outlives.
     made_holds g.D.Device _ _ _ _ _ _ c.compact_all.ensures.3 (made_holds g.D.Device _ _ _ _ _ _ c.in-Ok.ensures.2 c.requires)
 
-pub search_all-found-requires : goal.search_all-found-requires
-search_all-found-requires g c =
-    made_holds g.D.Device _ _ _ _ _ _ c.ask-_emptied.ensures
+pub search_all-found-requires-after_bounds : goal.search_all-found-requires-after_bounds
+search_all-found-requires-after_bounds g c = λ κs outlives.
+    made_holds g.D.Device _ _ _ _ _ _ c.ask-emptied.ensures
     (made_holds g.D.Device _ _ _ _ _ _ c.compact_all.ensures.3 (made_holds g.D.Device _ _ _ _ _ _ c.in-Ok.ensures.2 c.requires))
 
 pub returns-in_default-clause-ran : goal.returns-in_default-clause-ran
@@ -36,9 +36,9 @@ returns-clause-ran g c =
     let compacted = c.compact_all.ensures in
     let searched = c.search_all-found.ensures in
     let found = found_replies c.search_all-found.result in
-    let emptied = c.ask-_emptied.result in
+    let emptied = c.ask-emptied.result in
     let rest = made_then g.D.Device _ _ _ _ _ _ (compacted.0 ++ Ok Compact ∷ []) (Ok Reclaim ∷ searched.0) (compacted.1 ++ compacted.2 ∷ []) (emptied ∷ found) compacted.3
-    (made_then g.D.Device _ _ _ _ _ _ (Ok Reclaim ∷ []) searched.0 (emptied ∷ []) found c.ask-_emptied.ensures searched.3) in
+    (made_then g.D.Device _ _ _ _ _ _ (Ok Reclaim ∷ []) searched.0 (emptied ∷ []) found c.ask-emptied.ensures searched.3) in
     let whole = made_then g.D.Device _ _ _ _ _ _ pushed.0 ((compacted.0 ++ Ok Compact ∷ []) ++ Ok Reclaim ∷ searched.0) pushed.1 ((compacted.1 ++ compacted.2 ∷ []) ++ emptied ∷ found) pushed.2 rest in
     let counted = subst (λ (n : Counts). CountsOn n c.search_all-found.new.counts (pushed.1 ++ ((compacted.1 ++ compacted.2 ∷ []) ++ emptied ∷ found))) c.new-counts.ensures whole.counted in (
       pushed.0 ++ ((compacted.0 ++ Ok Compact ∷ []) ++ Ok Reclaim ∷ searched.0),

@@ -4,11 +4,11 @@ use Rattle.traceql_types.proofs.Calls.{refuses-none, refuses-on}
 use Rattle.trace_shell.proofs.DrillLemmas.{made_holds, made_then}
 use Rattle.trace_shell.proofs.drilling.search_all.Goals as goal
 
-pub search-large-requires : goal.search-large-requires
-search-large-requires g c = made_holds g.D.Device _ _ _ _ _ _ c.search-errors.ensures.asked.3 c.requires
+pub search-large-requires-after_bounds : goal.search-large-requires-after_bounds
+search-large-requires-after_bounds g c = λ κs outlives. made_holds g.D.Device _ _ _ _ _ _ c.search-errors.ensures.asked.3 c.requires
 
-pub search-crossing-requires : goal.search-crossing-requires
-search-crossing-requires g c = made_holds g.D.Device _ _ _ _ _ _ c.search-large.ensures.asked.3 (made_holds g.D.Device _ _ _ _ _ _ c.search-errors.ensures.asked.3 c.requires)
+pub search-crossing-requires-after_bounds : goal.search-crossing-requires-after_bounds
+search-crossing-requires-after_bounds g c = λ κs outlives. made_holds g.D.Device _ _ _ _ _ _ c.search-large.ensures.asked.3 (made_holds g.D.Device _ _ _ _ _ _ c.search-errors.ensures.asked.3 c.requires)
 
 pub returns : goal.returns
 returns g c =
