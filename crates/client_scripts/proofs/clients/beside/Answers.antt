@@ -1,29 +1,9 @@
-use denote.Param.Send.{param_send, recorded_send, sendable, struct_send}
-use Rattle.std.proofs.Crossing.{crosses}
-use Rattle.shared_store.proofs.shared.SharedPort.TheSendSync as shared
-use Rattle.shared_store.proofs.ticket.PortTicket.TheSendSync as ticket
-use Rattle.client_scripts.proofs.Crossing.{script-send}
+use Rattle.client_scripts.proofs.Crossing.{script-closure-send}
 use Rattle.client_scripts.proofs.clients.beside.Goals as goal
 
+-- A field counts here only by what it owns and leaves, so a closure of another name serves.
 pub join-requires-send-F : goal.join-requires-send-F
 join-requires-send-F g c κs within =
-    let port = c.type_bounds.send-Q in let rt = c.type_bounds.sync-R in let gate = c.type_bounds.sync-G in
-    param_send _ _ (recorded_send _ _ _ _ (struct_send _ (
-      search (rt, sendable) depth 20,
-      (
-        search (sendable, crosses) depth 20,
-        (
-          search (shared.the_sync, port, sendable) depth 20,
-          (
-            search (ticket.the_send, port, sendable) depth 20,
-            (
-              search (script-send, sendable, crosses) depth 20,
-              (
-                search sendable depth 20,
-                (search (gate, sendable) depth 20, tt),
-              ),
-            ),
-          ),
-        ),
-      ),
-    )))
+    let bounds = c.type_bounds in
+    let sent = script-closure-send g.row.Q g.row.R g.row.G g.Q.LookPort κs.1.1.1.1.1.1.0 κs.1.1.1.1.1.1.1.0 κs.1.1.1.1.1.1.1.1.0 bounds.send-Q bounds.sync-R bounds.sync-G in
+    record { owned = sent.owned; leaving = sent.leaving }
