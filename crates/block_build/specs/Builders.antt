@@ -9,7 +9,7 @@ use Rattle.block_stripes.specs.StripeReadings.{ascend}
 use Rattle.block_stripes.specs.Stripes.{has_form, is_extended}
 use Rattle.block_build.specs.declared.builder.Builder.{Builder}
 
--- Stripes of these rows: whatever stripes come behind them, all together are stripes of all rows.
+-- Stripes of these rows: whatever stripes come after them, all together are stripes of all rows.
 abbrev pub HasStripes : ℕ → List StripeInfo → List ℕ → List Row → Type 0
 HasStripes form stripes body rows = (later : List StripeInfo) (more : List ℕ) (rest : List Row) → StripesHaveEntries form later more rest
     → StripesHaveEntries form (stripes ++ later) (body ++ more) (rows ++ rest)
@@ -65,7 +65,7 @@ pub record IsWritten (old new : Builder) : Type 0 where
   pub full : IsTrue new.sure → length old.rows.items ≡ 256 → AreFull old.stripes.items → AreFull new.stripes.items
   pub counted : IsTrue new.sure → length old.rows.items ≤ 256 → AreFull old.stripes.items → AreCounted new.stripes.items
 
--- A stripe of these rows was put behind the others. The rows that wait are as before.
+-- A stripe of these rows was put after the others. The rows that wait are as before.
 pub record Puts (old : Builder) (rows : List Row) (new : Builder) : Type 0 where
   pub entry : StripeInfo
   pub stripe : List ℕ

@@ -16,7 +16,7 @@ abbrev pub begins_other : List Row → Row → Bool
 begins_other [] row = false
 begins_other (first ∷ others) row = not (is_eq (trace_cmp first.span.trace row.span.trace))
 
--- The first occurrences among the rows of a trace stand behind the others.
+-- The first occurrences among the rows of a trace stand after the others.
 pub record Settled (group before after : List Row) : Type 0 where
   pub firsts : List Row
   pub are_first : IsFirstOf group firsts
@@ -28,7 +28,7 @@ AreOfOne [] = Unit {0}
 AreOfOne (first ∷ others) = AllByRecursion (λ row. row.span.trace ≡ first.span.trace) others
 
 -- The rows of a trace so far, and those that are still to be gone over: whatever first occurrences they have together come
--- behind those that are found.
+-- after those that are found.
 pub record GoneOver (rows group rest found : List Row) : Type 0 where
   pub sorted : AreByTrace (group ++ rest)
   pub of_one : AreOfOne group

@@ -13,7 +13,7 @@ id_order a b = ordering_then (span_cmp a.span.id b.span.id) (trace_cmp a.span.tr
 abbrev pub earlier : Row → Row → Row
 earlier a b = if is_lt (place_cmp b.place a.place) then b else a
 
--- of a row and its neighbours of one span the one that came in first, and so on among those behind them
+-- of a row and its neighbours of one span the one that came in first, and so on among those after them
 abbrev pub firsts_behind : Row → List Row → List Row
 firsts_behind best [] = best ∷ []
 firsts_behind best (next ∷ rows) = if is_eq (id_order best next) then firsts_behind (earlier best next) rows else best ∷ firsts_behind next rows

@@ -57,7 +57,7 @@ impl Builder {
         }
     }
 
-    /// Adds a row behind the others, and writes their stripe if it is full.
+    /// Adds a row after the others, and writes their stripe if it is full.
     pub fn add(&mut self, row: Row) -> Result<(), Memory>
         ensures takes { OnOk result ((rows : List Row) → Takes self.old rows
             → Takes self.new (rows ++ row ∷ [])) }
@@ -131,7 +131,7 @@ impl Builder {
         self.put(refs.as_slice())
     }
 
-    /// Puts the stripe of these rows behind the others.
+    /// Puts the stripe of these rows after the others.
     fn put(&mut self, rows: &[RowRef<'_>]) -> Result<(), Memory>
         requires { can_be_stripe (is_extended self.old.form) rows.now ≡ true }
         ensures { OnOk result (Puts self.old rows.now self.new) }

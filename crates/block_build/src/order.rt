@@ -57,7 +57,7 @@ fn firsts_by_trace<'r>(alloc: Global, rows: &[Ticket<'_, 'r>]) -> Result<Vec<Row
     Ok(firsts)
 }
 
-/// Takes the next row: to the group of its trace, or behind the first occurrences of the traces before it.
+/// Takes the next row: to the group of its trace, or after the first occurrences of the traces before it.
 fn take_row<'a, 'r>(
     alloc: Global,
     row: &Ticket<'a, 'r>,
@@ -87,7 +87,7 @@ fn begins_other(group: &[Ticket<'_, '_>], row: &Ticket<'_, '_>) -> bool
     }
 }
 
-/// Moves the first occurrences among the rows of a trace behind those of the traces before it.
+/// Moves the first occurrences among the rows of a trace after those of the traces before it.
 fn settle<'a, 'r>(
     alloc: Global,
     group: &mut Vec<Ticket<'a, 'r>>,

@@ -1,4 +1,4 @@
-//! The stripes of a block, placed behind its header once it is known how many pages that has.
+//! The stripes of a block, placed after its header once it is known how many pages that has.
 
 ghost use Rattle.std.specs.Prelude.{◌≡◌, ◌⊎◌, ◌++◌, ◌+◌, ◌≤◌, ◌^◌, IfOk, IfSome, IsSome, List, false, length, true};
 ghost use Rattle.std.specs.List.{All};
@@ -23,7 +23,7 @@ const MOST_STRIPES: usize = 4096;
 /// The most rows that a block has.
 const MOST_ROWS: usize = 1_048_576;
 
-/// The page behind which no stripe ends.
+/// The page after which no stripe ends.
 const MOST_PAGES: u64 = 2_251_799_813_685_248;
 
 /// The block of rows with these trace ids, of which these are the stripes. The pages in their entries aren't read.
@@ -100,7 +100,7 @@ fn is_long(id: TraceId)
     let _ = id;
 }
 
-/// The bytes of a header, and those of the body behind them. The body is moved and not copied.
+/// The bytes of a header, and those of the body after them. The body is moved and not copied.
 fn behind(front: &[u8], body: Vec<u8>) -> Result<Vec<u8>, Memory>
     ensures { IfOk result (λ bytes. bytes.items ≡ front.now ++ body.items) }
 {
@@ -111,7 +111,7 @@ fn behind(front: &[u8], body: Vec<u8>) -> Result<Vec<u8>, Memory>
 }
 
 /// The entries of stripes of which the first begins at that page, and each other one where the one before it ends. There
-/// are none if one has another number of rows than a stripe of a block. No memory has bytes for a stripe that ends behind
+/// are none if one has another number of rows than a stripe of a block. No memory has bytes for a stripe that ends after
 /// page 2^51.
 fn placed(
     alloc: Global,

@@ -33,7 +33,7 @@ TakesFirst (Some row) old new = old ≡ row ∷ new
 
 -- ---- for a private invariant
 
--- Rows that are read, and those behind them, all in block order. None are read only where none are left.
+-- Rows that are read, and those after them, all in block order. None are read only where none are left.
 pub record IsLeft (rows later : List Row) : Type 0 where
   pub order : ascend (rows ++ later) ≡ true
   pub none : rows ≡ [] → later ≡ []

@@ -59,7 +59,7 @@ impl ReadBlock {
         self.info.form
     }
 
-    /// The rows of the stripe with this number, none behind the last stripe.
+    /// The rows of the stripe with this number, none after the last stripe.
     pub fn stripe(&self, alloc: Global, number: usize) -> Result<Vec<Row>, Memory>
         ensures { IfOk result (λ rows. rows.items ≡ take 256 (drop (256 * number) self.now)) }
     {

@@ -51,7 +51,7 @@ impl<'a> RowsLeft<'a> {
         })
     }
 
-    /// The trace of the next row. The others are of this trace, or of one that comes behind it.
+    /// The trace of the next row. The others are of this trace, or of one that comes after it.
     pub fn trace(&self) -> Option<TraceId>
         ensures none { result ≡ None → self.now ≡ [] }
         ensures some { IfSome result (λ trace. BeginsWith trace self.now) }

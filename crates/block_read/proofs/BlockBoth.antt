@@ -99,7 +99,7 @@ none_common : (wanted : List ℕ) → common wanted [] ≡ 0
 none_common [] = refl
 none_common (x ∷ xs) = refl
 
--- what is gone over is common, and there is no byte behind it
+-- what is gone over is common, and there is no byte after it
 pub stops_short : (wanted bytes : List ℕ) (i : ℕ) → length bytes ≤ i → common wanted bytes ≡ i + common (drop i wanted) (drop i bytes) → i ≡ common wanted bytes
 stops_short wanted bytes i short so_far =
     let none : common (drop i wanted) (drop i bytes) ≡ 0 = ap (common (drop i wanted)) (drop_all i bytes short) ∙ none_common (drop i wanted) in
@@ -108,7 +108,7 @@ stops_short wanted bytes i short so_far =
 other_byte : (x y : ℕ) (xs ys : List ℕ) → (y ≡ x → ⊥) → common (x ∷ xs) (y ∷ ys) ≡ 0
 other_byte x y xs ys other = rw (ne_eqb x y (λ e. other (sym e))) refl
 
--- what is gone over is common, and the byte behind it is another one
+-- what is gone over is common, and the byte after it is another one
 pub stops_other : (wanted bytes : List ℕ) (i : ℕ) → i < length wanted → i < length bytes → (get_or bytes i 0 ≡ get_or wanted i 0 → ⊥) → common wanted bytes ≡ i + common (drop i wanted) (drop i bytes) → i ≡ common wanted bytes
 stops_other wanted bytes i low here other so_far =
     let one = drop_more wanted i 0 low in

@@ -118,7 +118,7 @@ last_more x y ys = ap (slice_get (x ∷ y ∷ ys)) (index x y ys)
     index : (x y : Row) (ys : List Row) → length (x ∷ y ∷ ys) - 1 ≡ suc (length (y ∷ ys) - 1)
     index x y ys = omega arith
 
--- rows that ascend, parted: the later ones come behind the last of the first ones
+-- rows that ascend, parted: the later ones come after the last of the first ones
 pub parted : (k : ℕ) (rows : List Row) → ascend rows ≡ true → follow (last_of (take k rows)) (drop k rows) ≡ true
 unfolding ascend
 parted zero rows e = refl

@@ -13,7 +13,7 @@ made_of make (Ok x) = Ok (make x)
 made_of make (Err at) = Err at
 
 -- What a call on this file answers, seen by view, is what reading gives: a value, or the first offset of the file where it is
--- malformed. A fault and want of memory say nothing of the bytes.
+-- malformed. A fault and out of memory say nothing of the bytes.
 abbrev pub AnswersOf : {X A : Type 0} → (X → A) → ℕ → Result X ReadError → Result A ℕ → Type 0
 AnswersOf view file (Ok x) read = read ≡ Ok (view x)
 AnswersOf view file (Err (NotBlock other at)) read = (other ≡ file) × (read ≡ Err at)

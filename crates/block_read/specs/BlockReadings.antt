@@ -88,7 +88,7 @@ abbrev pub in_file : {A : Type 0} → ℕ → List ℕ → Result A ℕ → Resu
 in_file base part (Ok x) = Ok x
 in_file base part (Err at) = Err (base + min at (length part))
 
--- the first of the rows comes behind this one, where there is one
+-- the first of the rows comes after this one, where there is one
 abbrev pub follow : Option Row → List Row → Bool
 follow None rows = true
 follow (Some last) [] = true
@@ -98,8 +98,8 @@ follow (Some last) (row ∷ rows) = is_lt (block_order last row)
 abbrev pub last_of : List Row → Option Row
 last_of rows = slice_get rows (length rows - 1)
 
--- The rows of a stripe, by its entry and behind the last row of the stripe before. A stripe that disagrees with its entry, or one
--- whose rows don't come behind that row, is malformed at its first byte. Whether any stripe can agree with the entry is tested
+-- The rows of a stripe, by its entry and after the last row of the stripe before. A stripe that disagrees with its entry, or one
+-- whose rows don't come after that row, is malformed at its first byte. Whether any stripe can agree with the entry is tested
 -- before any byte is read. Pages are compared with the length before anything else is read, and the order of rows is tested once
 -- all else is as it must be.
 unfoldable pub stripe_of : ℕ → StripeInfo → Option Row → List ℕ → Result (List Row) ℕ
@@ -110,7 +110,7 @@ stripe_of form entry last part = do
   rows ← agreeing entry part (within part (stripe_at (is_extended form) part))
   unless_not (follow last rows) 0 rows
 
--- The rows of stripes with these entries, the first of which comes behind that row.
+-- The rows of stripes with these entries, the first of which comes after that row.
 unfoldable pub stripes_of : ℕ → List StripeInfo → Option Row → List ℕ → Result (List Row) ℕ
 stripes_of form [] last bytes = Ok []
 stripes_of form (entry ∷ entries) last bytes = do

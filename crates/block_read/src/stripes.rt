@@ -60,7 +60,7 @@ pub fn last_of(rows: &[Row]) -> Result<Option<Row>, Memory>
     }
 }
 
-/// The rows of the stripe with this entry, behind that row. Offsets are the file's.
+/// The rows of the stripe with this entry, after that row. Offsets are the file's.
 pub fn placed_stripe(
     alloc: Global,
     bytes: &[u8],
@@ -253,7 +253,7 @@ fn none_after(moment: u64, moments: &[u64]) -> bool
     moments.iter().all(|m| *m <= moment)
 }
 
-/// Whether the first of the rows comes behind that row, where there is one.
+/// Whether the first of the rows comes after that row, where there is one.
 fn follow(last: &Option<Row>, rows: &[Row]) -> bool
     ensures { result ≡ follow last.now rows.now }
 {

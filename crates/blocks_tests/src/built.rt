@@ -207,7 +207,7 @@ static REPEATS: [(&[Given], &[Given]); 5] = [
         &[(true, 1, 10, 0), (false, 1, 50, 1)],
         &[(false, 1, 50, 1), (true, 1, 10, 0)],
     ),
-    // in all traces, before and behind
+    // in all traces, before and after
     (
         &[
             (true, 1, 10, 3),

@@ -3,4 +3,5 @@ pub mod ToldLemmas
 pub mod NameLemmas
 pub mod RunLemmas
 pub mod ServeLemmas
+pub mod Crossing
 pub mod CoreLemmas

@@ -27,7 +27,7 @@ abbrev pub reply_count : Answered → ℕ
 reply_count answered = length answered.replies.items
 
 -- A script was answered: the replies are those of its first items, in order, and the port's calls are just theirs. It ended before its
--- last item exactly where memory was wanted for a reply's place.
+-- last item exactly if there was no memory for a reply's place.
 pub record HasAnswered {P : Type 0} (meaning : Meaning P) (old : P) (items : List Item) (answered : Answered) (new : P) : Type 0 where
   pub first : AreAnsweredOver meaning old (take (reply_count answered) items) answered.replies.items new
   pub starved : answered.starved ≡ nat_lt (reply_count answered) (length items)
@@ -46,7 +46,7 @@ AreItemsAnswered (item ∷ items) [] calls = ⊥
 AreItemsAnswered (item ∷ items) (reply ∷ replies) calls =
     (now later : List Call) × (calls ≡ now ++ later) × IsItemAnswered item reply now × AreItemsAnswered items replies later
 
--- A script was answered so by these calls: all of it, or its first items where memory was wanted.
+-- A script was answered so by these calls: all of it, or its first items if it ran out of memory.
 pub record IsScriptAnswered (items : List Item) (answered : Answered) (calls : List Call) : Type 0 where
   pub first : AreItemsAnswered (take (reply_count answered) items) answered.replies.items calls
   pub starved : answered.starved ≡ nat_lt (reply_count answered) (length items)

@@ -1,6 +1,7 @@
-//! Several clients over one store, each at a seat of its own.
+//! Several clients over one store, each on a thread of its own.
 
 ghost use Rattle.std.specs.Prelude.{◌≡◌, ◌^◌, ◌<◌, ◌≤◌, [], List, IfOk, OnErr, vec_len, vec_capacity};
+ghost use Rattle.std.specs.Thread.{IsSend, IsSync};
 ghost use Rattle.store_core.specs.Port.{port_of};
 ghost use Rattle.port_history.specs.Entries.{Entry};
 ghost use Rattle.shared_store.specs.Apart.{IsUnshared};
@@ -10,7 +11,7 @@ ghost use Rattle.shared_store.specs.Rule.{one_less, split_off};
 ghost use Rattle.shared_store.specs.Seats.{seat_meaning, stand_of};
 ghost use Rattle.client_scripts.specs.Scripts.{HasAnswered};
 ghost use Rattle.client_scripts.specs.Served.{HasServed};
-ghost use Rattle.client_scripts.specs.Stages.{HaveRun, IsOneOf, KnowsOneLength};
+ghost use Rattle.client_scripts.specs.Stages.{HaveRun, IsOneOf, KnowsOneLength, MayRun};
 
 use crate::script::{Answered, Script, answer_script};
 use disk_model::Device;
@@ -19,18 +20,20 @@ use shared_store::{PortSeat, PortTicket, SharedPort, a_core_crosses, a_core_is_u
 use span_types::Memory;
 use std::alloc::Global;
 use std::sync::Wait;
+use std::thread;
+use std::thread::Threads;
 use store_core::Core;
 use store_state::{LookPort, Port};
 
 /// The scripts of several clients. The number of a client is the place of its script, counted from 0.
 pub type Scripts = Vec<Script>;
 
-/// Answers the scripts of several clients over one store, each over a seat of its own, one script after another. What it promises
-/// holds in whatever order their calls come, so that they may be answered on threads one day.
+/// Answers the scripts of several clients over one store, each over a seat of its own and on a thread of its own; the caller waits for
+/// all of them. If no thread can be made a script is run by the caller.
 ///
-/// All memory for this is taken before the first script, and where there is none the core comes back as it was. A script that
-/// wants memory later ends there, and the others go on.
-pub fn run_scripts<D: Device + Drop + Send, R: Wait, G: Gate>(
+/// All memory for this is taken before the first thread starts, and if there is none the core comes back as it was. A script that runs
+/// out of memory later ends there, and the others go on.
+pub fn run_scripts<D: Device + Drop + Send, R: Threads + Wait + Sync, G: Gate>(
     rt: &R,
     alloc: Global,
     core: Core<D>,
@@ -49,7 +52,7 @@ pub fn run_scripts<D: Device + Drop + Send, R: Wait, G: Gate>(
 }
 
 // The same over any port.
-fn serve<R: Wait, Q: Port + Drop + Send, G: Gate>(
+fn serve<R: Threads + Wait + Sync, Q: Port + Drop + Send, G: Gate>(
     rt: &R,
     alloc: Global,
     port: Q,
@@ -109,7 +112,7 @@ fn one<Q: LookPort, R>(
 }
 
 // Answers a script over a seat that is left then.
-fn run_one<R: Wait, Q: Port, G: Gate>(
+fn run_one<R: Threads + Wait + Sync, Q: Port, G: Gate>(
     rt: &R,
     alloc: Global,
     store: &SharedPort<Q>,
@@ -127,8 +130,35 @@ fn run_one<R: Wait, Q: Port, G: Gate>(
     (seat.leave(), answered)
 }
 
-// Answers all scripts, the last one first, each at a seat of its own. The tickets of their seats are made one with this one.
-fn run_all<R: Wait, Q: Port + Send, G: Gate>(
+// Answers a script on a thread of its own, while the caller does the rest. If no thread can be made the caller answers it too.
+fn beside<Q: Port + Send, R: Threads + Wait + Sync, G: Gate, F: FnOnce() -> T, T>(
+    rt: &R,
+    alloc: Global,
+    store: &SharedPort<Q>,
+    ticket: PortTicket<Q>,
+    script: Script,
+    client: u32,
+    gate: &G,
+    rest: F,
+) -> ((PortTicket<Q>, Answered), T)
+    requires here { IsOf store.now ticket }
+    requires client { client < 2 ^ 31 }
+    requires rest { F.pre rest }
+    ensures first { HasAnswered (seat_meaning Q.meaning) ticket script result.0.1 result.0.0 }
+    ensures second { F.post rest result.1 }
+{
+    thread::join(
+        rt,
+        move || -> (PortTicket<Q>, Answered)
+            requires { IsSync R.row × IsSend Q.row × IsSync G.row × IsOf store.now ticket × (client < 2 ^ 31) }
+            ensures { HasAnswered (seat_meaning Q.meaning) ticket script result.1 result.0 }
+        { run_one(rt, alloc, store, ticket, script, client, gate) },
+        rest,
+    )
+}
+
+// Answers all scripts, each on a thread of its own, the last one first off. The tickets of their seats are made one with this one.
+fn run_all<R: Threads + Wait + Sync, Q: Port + Send, G: Gate>(
     rt: &R,
     alloc: Global,
     store: &SharedPort<Q>,
@@ -152,8 +182,19 @@ fn run_all<R: Wait, Q: Port + Send, G: Gate>(
     };
     let client = scripts.len() as u32;
     let (ticket, mine) = two(rt, store, ticket);
-    let (mine, answered) = run_one(rt, alloc, store, mine, last, client, gate);
-    let (ticket, answers) = run_all(rt, alloc, store, ticket, scripts, answers, gate);
+    let ((mine, answered), (ticket, answers)) = beside(
+        rt,
+        alloc,
+        store,
+        mine,
+        last,
+        client,
+        gate,
+        move || -> (PortTicket<Q>, Vec<Answered>)
+            requires { MayRun store.now ticket scripts answers }
+            ensures { HaveRun Q.meaning ticket scripts.items result.1.items result.0 × (vec_capacity answers ≤ vec_capacity result.1) }
+        { run_all(rt, alloc, store, ticket, scripts, answers, gate) },
+    );
     let mut answers = answers;
     let Ok(()) = answers.push(answered) else {
         unreachable!()

@@ -1,4 +1,4 @@
-//! What clients ask, script by script: one over any port, and several over one store, each at a seat of its own.
+//! What clients ask, script by script: one over any port, and several over one store, each on a thread of its own.
 //!
 //! `script` answers one, whose promise is `HasAnswered` of `specs/Scripts.antt`. `clients` answers several over one core, whose promise is
 //! `HasServed` of `specs/Served.antt`. `laws` has what follows for the calls of a port.

@@ -22,13 +22,13 @@ pub type Script = Seq<Item>;
 pub struct Answered {
     /// The replies to the first items of its script, in order.
     pub replies: Vec<Reply>,
-    /// Whether memory was wanted for the next reply. That item and the later ones weren't asked.
+    /// Whether there was no memory for the next reply. That item and the later ones weren't asked.
     pub starved: bool,
 }
 
 /// Answers the items of a script over a port, one after another, for the client with this number.
 ///
-/// The place of a reply is reserved before its item is answered, so no event happens whose reply is lost. Where there is no memory for
+/// The place of a reply is reserved before its item is answered, so no event happens whose reply is lost. If there is no memory for
 /// it the script ends there, and none of the later items makes an event.
 pub fn answer_script<P: Port, G: Gate>(
     alloc: Global,

@@ -12,7 +12,7 @@ use Rattle.clap.specs.Faults.{check_fault, defaults_fault, level_fault, settle_f
 use Rattle.clap.specs.Simple.{Shape, built_leaf, inherited}
 use Rattle.clap.specs.Walk.{Held, Row, Text, Walk, finished, first_of, nothing_held, settled, walk, rows_after, walk_from, walked}
 use Rattle.command_words.specs.Spelling.{is_flag}
-use Rattle.command_words.specs.Table.{bare_app, ingest_shape, search_shape, session_shape, trace_shape}
+use Rattle.command_words.specs.Table.{bare_app, drill_shape, ingest_shape, search_shape, session_shape, trace_shape}
 use Rattle.command_words.proofs.Full.{TakeOne, ends_full, given_is_found}
 use Rattle.command_words.proofs.Turns.{HasNoFlags, IsBare, dashes, dashes_text, flag, holding, leaf_end_fault, leaf_ends, none_first, placed, standing, stray_is_fault, trailing_none, turned, walk_next}
 
@@ -184,6 +184,47 @@ search_rest rest h =
     (check_fault search_leaf (finished search_leaf.rules end.held) false) settle.1 in
     let full = ends_full search_leaf rest search_takes_one (λ c. refl) (none_first _ _ h).0 settle.0 in
     given_is_found (codes "query") (finished search_leaf.rules end.held) full (query_wanted (finished search_leaf.rules end.held) checked.1)
+
+-- ---- drills
+
+abbrev pub drill_leaf : Shape
+drill_leaf = leaf drill_shape
+
+drill_takes_one : TakeOne drill_leaf.rules
+drill_takes_one = (
+  record { takes = refl; sets = refl; bare = refl; wants = λ again rows h. let bad : ⊥ = cc in bad },
+  (record { takes = refl; sets = refl; bare = refl; wants = λ again rows h. let bad : ⊥ = cc in bad }, tt),
+)
+
+seed_wanted : (rows : List Row) → check_fault drill_leaf rows false ≡ [] → is_given (codes "seed") rows ≡ true
+seed_wanted rows h = go (is_given (codes "seed") rows) refl
+  where
+    go : (b : Bool) → is_given (codes "seed") rows ≡ b → b ≡ true
+    go true is = refl
+    go false is = let bad = rw is at h in cc
+
+traces_wanted : (rows : List Row) → check_fault drill_leaf rows false ≡ [] → is_given (codes "traces") rows ≡ true
+traces_wanted rows h = go (is_given (codes "traces") rows) refl
+  where
+    go : (b : Bool) → is_given (codes "traces") rows ≡ b → b ≡ true
+    go true is = refl
+    go false is = let bad = rw (seed_wanted rows h, is) at h in cc
+
+-- Where nothing is at fault, the words give both numbers.
+pub drill_rest : (rest : List Text) → level_fault drill_leaf [] nothing_held rest false [] ≡ []
+    → (is_some (first_of (codes "seed") (rows_after drill_leaf.rules [] rest)) ≡ true)
+    × (is_some (first_of (codes "traces") (rows_after drill_leaf.rules [] rest)) ≡ true)
+drill_rest rest h =
+    let end = walk drill_leaf.rules [] nothing_held rest in
+    let clean : leaf_end_fault drill_leaf end ≡ [] = leaf_ends drill_leaf rest end refl h in
+    let settle = none_first (settle_fault drill_leaf.rules drill_leaf.args_override_self end.held)
+    (or_else (defaults_fault (settled drill_leaf.rules end.held).rows drill_leaf.rules) (check_fault drill_leaf (finished drill_leaf.rules end.held) false)) clean in
+    let checked = none_first (defaults_fault (settled drill_leaf.rules end.held).rows drill_leaf.rules)
+    (check_fault drill_leaf (finished drill_leaf.rules end.held) false) settle.1 in
+    let full = ends_full drill_leaf rest drill_takes_one (λ c. refl) (none_first _ _ h).0 settle.0 in (
+      given_is_found (codes "seed") (finished drill_leaf.rules end.held) full (seed_wanted (finished drill_leaf.rules end.held) checked.1),
+      given_is_found (codes "traces") (finished drill_leaf.rules end.held) full (traces_wanted (finished drill_leaf.rules end.held) checked.1),
+    )
 
 -- ---- words that ask something
 

@@ -1,8 +1,10 @@
 pub mod Found
 pub mod Leaves
+pub mod Numbers
 pub mod Spelled
 pub mod Turns
 pub mod Full
 pub mod Whole
 pub mod Rows
 pub mod Taken
+pub mod TakenDrill

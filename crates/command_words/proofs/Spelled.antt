@@ -1,8 +1,10 @@
 -- The laws of what words ask, and what is read of them.
-use Rattle.std.proofs.Common.{◌≡◌, ◌∙◌, ℕ, zero, suc, true, false, Option, Some, None, List, [], ◌∷◌, Result, Ok, Err, refl, sym, ap, subst, inl, inr, arith}
-use Rattle.std.specs.Prelude.{All, IfErr, String, codes, is_some, map, option_map, string_bytes}
+use Rattle.std.proofs.Common.{◌≡◌, ◌∙◌, ℕ, zero, suc, true, false, Option, Some, None, List, [], ◌∷◌, Result, Ok, Err, refl, sym, ap, ap₂, subst, inl, inr, ◌<◌, ◌≤◌, ◌^◌, arith}
+use Rattle.std.specs.Prelude.{All, IfErr, String, codes, decimal, is_some, map, option_map, string_bytes}
 use Rattle.std.specs.Str.{IsUtf8}
+use Rattle.std.specs.Str.Parse.{digits_value}
 use Rattle.std.specs.declared.alloc.Global.{Global}
+use Rattle.std.proofs.lemmas.Fmt.{decimal_is_IsNumeral}
 use Rattle.std.proofs.lemmas.Str.{IsUtf8-string_bytes}
 use Rattle.clap.specs.Kinds.{Kinds, or_else}
 use Rattle.clap.specs.Words.{first_value, subcommand_of}
@@ -10,14 +12,16 @@ use Rattle.clap.specs.declared.parser.matches.Found.{Found}
 use Rattle.clap.specs.Faults.{fault_of}
 use Rattle.clap.specs.Walk.{Text}
 use Rattle.clap.proofs.OnLiterals.{clap_on_literals}
-use Rattle.command_words.specs.Commands.{Alone, Command, Ingest, Session, Spells, command_of, ingest, search, session, trace}
-use Rattle.command_words.specs.Spelling.{Given, IsIngest, IsSearch, IsSession, IsTaken, IsTrace, found_value, given_in, is_flag, search_line, trace_line}
+use Rattle.command_words.specs.Commands.{Alone, Command, Drill, Ingest, IsDrillGiven, Session, Spells, command_of, drill, ingest, search, session, trace}
+use Rattle.command_words.specs.Numbers.{fewest_traces, greatest_seed, least_seed, most_traces, seed_fault, traces_fault, word_faults}
+use Rattle.command_words.specs.Spelling.{Given, IsDrill, IsIngest, IsSearch, IsSession, IsTaken, IsTrace, found_value, given_in, is_flag, search_line, trace_line}
 use Rattle.command_words.specs.Table.{words_app}
 use Rattle.command_words.specs.declared.asked.Asked.{Asked}
 use Rattle.command_words.specs.declared.asked.WordsError.{WordsError}
 use Rattle.command_words.specs.declared.asked.WordsError.TheVariants.{Refused, Memory}
-use Rattle.command_words.proofs.Found.{FindsSearch, ingest_is_not_search}
+use Rattle.command_words.proofs.Found.{FindsDrill, FindsSearch, ingest_is_not_search, trace_is_not_drill}
 use Rattle.command_words.proofs.Leaves.{alone_clean, before_clean}
+use Rattle.command_words.proofs.Numbers.{clean_parts, drill_only_clap, drill_parts, number_there, only_clap, seed_fits, traces_fit}
 use Rattle.command_words.proofs.Taken.{taken_asks, taken_clean}
 use Rattle.command_words.proofs.Whole as read
 use Rattle.command_words.proofs.Whole.{IsBareTrace, Read, read_from, trace_from_bare}
@@ -107,6 +111,34 @@ ingest_no_search words given is also =
     let both : Some (codes "ingest") ≡ Some (codes "search") = sym (ingest_name words is) ∙ also.name in
     ingest_is_not_search cc
 
+drill_no_session : (words : List Text) (seed traces : Text) → IsDrill seed traces words → IsSession words → ⊥
+drill_no_session words seed traces is also = let both : Some (codes "drill") ≡ Some (codes "session") = sym is.name ∙ session_name words also in cc
+
+drill_no_ingest : (words : List Text) (seed traces : Text) → IsDrill seed traces words → IsIngest words → ⊥
+drill_no_ingest words seed traces is also = let both : Some (codes "drill") ≡ Some (codes "ingest") = sym is.name ∙ ingest_name words also in cc
+
+drill_no_trace : (words : List Text) (seed traces : Text) (id : List ℕ) → IsDrill seed traces words → IsTrace id words → ⊥
+drill_no_trace words seed traces id is also =
+    let both : Some (codes "trace") ≡ Some (codes "drill") = sym (trace_name words id also) ∙ is.name in
+    trace_is_not_drill cc
+
+drill_no_search : (words : List Text) (seed traces : Text) (given : Given) → IsDrill seed traces words → IsSearch given words → ⊥
+drill_no_search words seed traces given is also = let both : Some (codes "drill") ≡ Some (codes "search") = sym is.name ∙ also.name in cc
+
+-- A number is read back from its text.
+same_number : (m n : ℕ) → m < 2 ^ 64 → n < 2 ^ 64 → decimal m ≡ decimal n → m ≡ n
+same_number m n small also is = sym (decimal_is_IsNumeral m small).1 ∙ (ap (digits_value 10) is ∙ (decimal_is_IsNumeral n also).1)
+
+same_drill : (words : List Text) (seed traces other others : ℕ) → IsDrill (decimal seed) (decimal traces) words → IsDrill (decimal other) (decimal others) words
+    → seed ≤ greatest_seed → traces ≤ most_traces → other ≤ greatest_seed → others ≤ most_traces → Drill seed traces ≡ Drill other others
+same_drill words seed traces other others is also a b c d =
+    let seeds : Some (decimal seed) ≡ Some (decimal other) = sym is.seed_is ∙ also.seed_is in
+    let all : Some (decimal traces) ≡ Some (decimal others) = sym is.traces_are ∙ also.traces_are in
+    let seed_text : decimal seed ≡ decimal other = cc in
+    let traces_text : decimal traces ≡ decimal others = cc in
+    ap₂ Drill (same_number seed other (omega (arith, a, seed_fits)) (omega (arith, c, seed_fits)) seed_text)
+    (same_number traces others (omega (arith, b, traces_fit)) (omega (arith, d, traces_fit)) traces_text)
+
 same_search : (words : List Text) (a b : Given) → IsSearch a words → IsSearch b words → a ≡ b
 same_search words a b x y =
     let queries : Some a.query ≡ Some b.query = sym x.query ∙ y.query in
@@ -119,27 +151,39 @@ same_search words a b x y =
 
 -- ---- the laws
 
-pub spelled_clean : (words : List Text) (c : Command) → Spells words c → fault_of words_app words ≡ []
-spelled_clean words c (session is) = session_clean words is
-spelled_clean words c (ingest is) = ingest_clean words is
-spelled_clean words c (trace id is) = trace_clean words id is
-spelled_clean words c (search given is clean) = clean
+pub spelled_clean : (words : List Text) (c : Command) → Spells words c → word_faults words ≡ []
+spelled_clean words c (session is) = only_clap words (codes "session") (session_name words is) refl (session_clean words is)
+spelled_clean words c (ingest is) = only_clap words (codes "ingest") (ingest_name words is) refl (ingest_clean words is)
+spelled_clean words c (drill seed traces is clean within few many) =
+    drill_only_clap words seed traces is.name (record { is = is.seed_is; least = omega arith; most = within }) (record { is = is.traces_are; least = few; most = many }) clean
+spelled_clean words c (trace id is) = only_clap words (codes "trace") (trace_name words id is) refl (trace_clean words id is)
+spelled_clean words c (search given is clean) = only_clap words (codes "search") is.name refl clean
 
 pub spelled_one : (words : List Text) (c d : Command) → Spells words c → Spells words d → c ≡ d
 spelled_one words c d (session is) (session also) = refl
 spelled_one words c d (session is) (ingest also) = absurd (ingest_no_session words also is)
+spelled_one words c d (session is) (drill seed traces also clean within few many) = absurd (drill_no_session words _ _ also is)
 spelled_one words c d (session is) (trace id also) = absurd (not_both words id is also)
 spelled_one words c d (session is) (search given also clean) = absurd (session_no_search words given is also)
 spelled_one words c d (ingest is) (session also) = absurd (ingest_no_session words is also)
 spelled_one words c d (ingest is) (ingest also) = refl
+spelled_one words c d (ingest is) (drill seed traces also clean within few many) = absurd (drill_no_ingest words _ _ also is)
 spelled_one words c d (ingest is) (trace id also) = absurd (ingest_no_trace words id is also)
 spelled_one words c d (ingest is) (search given also clean) = absurd (ingest_no_search words given is also)
+spelled_one words c d (drill seed traces is clean within few many) (session also) = absurd (drill_no_session words _ _ is also)
+spelled_one words c d (drill seed traces is clean within few many) (ingest also) = absurd (drill_no_ingest words _ _ is also)
+spelled_one words c d (drill seed traces is clean within few many) (drill other others also free inside some most) =
+    same_drill words seed traces other others is also within many inside most
+spelled_one words c d (drill seed traces is clean within few many) (trace id also) = absurd (drill_no_trace words _ _ id is also)
+spelled_one words c d (drill seed traces is clean within few many) (search given also free) = absurd (drill_no_search words _ _ given is also)
 spelled_one words c d (trace id is) (session also) = absurd (not_both words id also is)
 spelled_one words c d (trace id is) (ingest also) = absurd (ingest_no_trace words id also is)
+spelled_one words c d (trace id is) (drill seed traces also clean within few many) = absurd (drill_no_trace words _ _ id also is)
 spelled_one words c d (trace id is) (trace other also) = ap (λ (i : List ℕ). Alone (trace_line i)) (same_id words id other is also)
 spelled_one words c d (trace id is) (search given also clean) = absurd (trace_no_search words id given is also)
 spelled_one words c d (search given is clean) (session also) = absurd (session_no_search words given also is)
 spelled_one words c d (search given is clean) (ingest also) = absurd (ingest_no_search words given also is)
+spelled_one words c d (search given is clean) (drill seed traces also free within few many) = absurd (drill_no_search words _ _ given also is)
 spelled_one words c d (search given is clean) (trace id also) = absurd (trace_no_search words id given also is)
 spelled_one words c d (search given is clean) (search other also free) = ap (λ (g : Given). Alone (search_line g)) (same_search words given other is also)
 
@@ -175,14 +219,29 @@ search_spelled words clean name some = go (found_value words (codes "query")) re
         } in
         (Alone (search_line given), search given (record { name = name; limit = refl; spss = refl; start = refl; end = refl; query = is }) clean)
 
-pub spelled_some : (words : List Text) → All IsUtf8 words → fault_of words_app words ≡ [] → (c : Command) × Spells words c
-spelled_some words all clean = go (read_from words clean)
+-- The drill that words name.
+drill_spelled : (words : List Text) → word_faults words ≡ [] → name_of words ≡ Some (codes "drill")
+    → is_some (found_value words (codes "seed")) ≡ true → is_some (found_value words (codes "traces")) ≡ true → (c : Command) × Spells words c
+drill_spelled words clean name has_seed has_traces =
+    let parts = drill_parts words name clean in
+    let seed = number_there least_seed greatest_seed (found_value words (codes "seed")) has_seed parts.0 in
+    let traces = number_there fewest_traces most_traces (found_value words (codes "traces")) has_traces parts.1 in (
+      Drill seed.0 traces.0,
+      drill seed.0 traces.0 (record { name = name; seed_is = seed.1.is; traces_are = traces.1.is }) (clean_parts words clean).0 seed.1.most traces.1.least traces.1.most,
+    )
+
+pub spelled_some : (words : List Text) → All IsUtf8 words → word_faults words ≡ [] → (c : Command) × Spells words c
+spelled_some words all faultless = go (read_from words clean)
   where
+    clean : fault_of words_app words ≡ []
+    clean = (clean_parts words faultless).0
+
     go : Read words (subcommand_of words_app words) → (c : Command) × Spells words c
     go (read.session name is) = (Session, session is)
     go (read.ingest name is) = (Ingest, ingest is)
     go (read.trace id name gives is) = (Alone (trace_line id), trace id (trace_from_bare id words (id_is_text words id all is) is))
     go (read.search name query) = search_spelled words clean name query
+    go (read.drill name seed traces) = drill_spelled words faultless name seed traces
 
 -- ---- what is read
 
@@ -206,6 +265,27 @@ pub trace_asked : (words : List Text) (id : List ℕ) → All IsUtf8 words → I
     → command_of asked ≡ Alone (trace_line id) → Spells words (command_of asked)
 trace_asked words id all is asked gives =
     subst (λ (c : Command). Spells words c) (sym gives) (trace id (trace_from_bare id words (id_is_text words id all is) is))
+
+pub drill_asked : (words : List Text) (found : Found) → fault_of words_app words ≡ [] → FindsDrill words found → (asked : Asked)
+    → IsDrillGiven found (command_of asked) → Spells words (command_of asked)
+drill_asked words found clean finds asked given = subst (λ (c : Command). Spells words c) (sym given.is) (drill given.seed given.traces (record {
+  name = finds.name;
+  seed_is = finds.values (codes "seed") ∙ given.seed_is.is;
+  traces_are = finds.values (codes "traces") ∙ given.traces_are.is;
+}) clean given.seed_is.most given.traces_are.least given.traces_are.most)
+
+-- Where a number of the drill is at fault, the words are.
+pub drill_refused : (words : List Text) (found : Found) → FindsDrill words found
+    → (or_else (seed_fault (first_value found (codes "seed"))) (traces_fault (first_value found (codes "traces"))) ≡ [] → ⊥) → word_faults words ≡ [] → ⊥
+drill_refused words found finds bad clean =
+    let parts = drill_parts words finds.name clean in
+    let seed : seed_fault (first_value found (codes "seed")) ≡ [] = ap seed_fault (sym (finds.values (codes "seed"))) ∙ parts.0 in
+    let traces : traces_fault (first_value found (codes "traces")) ≡ [] = ap traces_fault (sym (finds.values (codes "traces"))) ∙ parts.1 in
+    bad (ap₂ or_else seed traces)
+
+-- Where `clap` finds a fault, the words have one.
+pub clap_refused : (words : List Text) → (fault_of words_app words ≡ [] → ⊥) → word_faults words ≡ [] → ⊥
+clap_refused words bad clean = bad (clean_parts words clean).0
 
 pub never_refused : (r : Result Asked WordsError) → IfErr r (λ error. error ≡ Memory) → r ≡ Err Refused → ⊥
 never_refused (Ok asked) h is = cc

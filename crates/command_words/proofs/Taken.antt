@@ -257,7 +257,7 @@ rest_rows g words is = ap (λ (w : Walk). finished rules w.held) (rest_walk g wo
 -- ---- the whole words
 
 -- Words after a subcommand's name are not looked at.
-stopped_clean : (s : Shape) (names : Names) (w : Walk) (name : Text) (kept rest : List Text) → walk_fault s names (record w { stopped = Some (name, kept) }) rest ≡ []
+pub stopped_clean : (s : Shape) (names : Names) (w : Walk) (name : Text) (kept rest : List Text) → walk_fault s names (record w { stopped = Some (name, kept) }) rest ≡ []
 unfolding walked walk_fault
 stopped_clean s names w name kept [] = refl
 stopped_clean s names w name kept (word ∷ rest) = stopped_clean s names w name (kept ++ word ∷ []) rest

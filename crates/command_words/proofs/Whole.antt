@@ -10,13 +10,14 @@ use Rattle.clap.specs.declared.error.kind.ErrorKind.{ErrorKind}
 use Rattle.clap.specs.declared.error.kind.ErrorKind.TheVariants as kind
 use Rattle.clap.specs.Walk.{Row, Text, Walk, answers_to, finished, first_of, nothing_held, settled, walk, walk_from, walked}
 use Rattle.command_words.specs.Spelling.{IsIngest, IsSession, IsTrace}
-use Rattle.command_words.specs.Table.{bare_app, ingest_shape, search_shape, session_shape, trace_shape, words_app}
-use Rattle.command_words.proofs.Leaves.{IsIdRest, bare_is_no_flag, ingest_rest, search_rest, session_rest, trace_rest}
+use Rattle.command_words.specs.Table.{bare_app, drill_shape, ingest_shape, search_shape, session_shape, trace_shape, words_app}
+use Rattle.command_words.proofs.Leaves.{IsIdRest, bare_is_no_flag, drill_rest, ingest_rest, search_rest, session_rest, trace_rest}
 use Rattle.command_words.proofs.Turns.{HasNoFlags, IsBare, dashes, dashes_text, flag, none_first, placed, standing, stop_more, stray_is_fault, trailing_none, turned, walk_next}
 
 -- The command as it is built.
 abbrev pub whole : App
-whole = built (with_subcommand (with_subcommand (with_subcommand (with_subcommand bare_app session_shape) ingest_shape) trace_shape) search_shape)
+whole = built (with_subcommand (with_subcommand (with_subcommand (with_subcommand (with_subcommand bare_app
+    session_shape) ingest_shape) trace_shape) search_shape) drill_shape)
 
 -- As `IsTrace`, where the id is bare rather than no flag.
 abbrev pub IsBareTrace : Text → List Text → Type 0
@@ -36,6 +37,9 @@ pub data Read (words : List Text) (found : Option (Text × List Row)) : Type 0 w
       → option_and_then (λ p. first_of (codes "id") p.1) found ≡ Some id → IsBareTrace id words → Read words found
   search : option_map (λ p. p.0) found ≡ Some (codes "search")
       → is_some (option_and_then (λ p. first_of (codes "query") p.1) found) ≡ true → Read words found
+  drill : option_map (λ p. p.0) found ≡ Some (codes "drill")
+      → is_some (option_and_then (λ p. first_of (codes "seed") p.1) found) ≡ true
+      → is_some (option_and_then (λ p. first_of (codes "traces") p.1) found) ≡ true → Read words found
 
 -- What is at fault after the first step, by where the walk over the words ends.
 abbrev pub end_fault : Walk → Kinds
@@ -124,6 +128,20 @@ search_first w rest same h =
     let found = found_at (w ∷ rest) _ end in
     search (ap (option_map (λ p. p.0)) found) (ap (λ (o : Option (Text × List Row)). is_some (option_and_then (λ p. first_of (codes "query") p.1) o)) found ∙ search_rest rest clean)
 
+drill_first : (w : Text) (rest : List Text) → bytes_eq (codes "drill") w ≡ true → fault_of words_app (w ∷ rest) ≡ []
+    → Read (w ∷ rest) (subcommand_of words_app (w ∷ rest))
+unfolding walked
+drill_first w rest same h =
+    let is : codes "drill" ≡ w = (bytes_decides (codes "drill") w).0 same in
+    let end = stops_at w rest (codes "drill")
+    (subst (λ (x : Text). walked [] (names_of whole) start x ≡ record start { stopped = Some (codes "drill", []) }) is refl) in
+    let clean = (none_first _ _ (ends_clean (w ∷ rest) _ end h).1).0 in
+    let found = found_at (w ∷ rest) _ end in
+    let given = drill_rest rest clean in
+    drill (ap (option_map (λ p. p.0)) found)
+    (ap (λ (o : Option (Text × List Row)). is_some (option_and_then (λ p. first_of (codes "seed") p.1) o)) found ∙ given.0)
+    (ap (λ (o : Option (Text × List Row)). is_some (option_and_then (λ p. first_of (codes "traces") p.1) o)) found ∙ given.1)
+
 some_kind : (k : ErrorKind) → k ∷ [] ≡ [] → ⊥
 some_kind k h = cc
 
@@ -134,9 +152,10 @@ none_met is_trailing h = some_kind kind.MissingSubcommand h
 
 -- No other first word is without fault.
 other_first : (w : Text) (rest : List Text) → bytes_eq (codes "session") w ≡ false → bytes_eq (codes "ingest") w ≡ false
-    → bytes_eq (codes "trace") w ≡ false → bytes_eq (codes "search") w ≡ false → fault_of words_app (w ∷ rest) ≡ [] → ⊥
-other_first w rest session_not ingest_not trace_not search_not h =
-    let unmet : find (answers_to w) (names_of whole) ≡ None = rw (session_not, ingest_not, trace_not, search_not) refl in
+    → bytes_eq (codes "trace") w ≡ false → bytes_eq (codes "search") w ≡ false → bytes_eq (codes "drill") w ≡ false
+    → fault_of words_app (w ∷ rest) ≡ [] → ⊥
+other_first w rest session_not ingest_not trace_not search_not drill_not h =
+    let unmet : find (answers_to w) (names_of whole) ≡ None = rw (session_not, ingest_not, trace_not, search_not, drill_not) refl in
     let next = walk_next whole.top (names_of whole) start w rest (ends_clean (w ∷ rest) _ refl h).0 in
     elim (turned whole.top (names_of whole) [] None 1 w whole_flags unmet) [
       | dashes is clean after ↦
@@ -155,11 +174,14 @@ pub read_from : (words : List Text) → fault_of words_app words ≡ [] → Read
 read_from [] h = absurd (none_met false (ends_clean [] start refl h).1)
 read_from (w ∷ rest) h =
     go (bytes_eq (codes "session") w) refl (bytes_eq (codes "ingest") w) refl (bytes_eq (codes "trace") w) refl (bytes_eq (codes "search") w) refl
+    (bytes_eq (codes "drill") w) refl
   where
     go : (a : Bool) → bytes_eq (codes "session") w ≡ a → (b : Bool) → bytes_eq (codes "ingest") w ≡ b → (c : Bool) → bytes_eq (codes "trace") w ≡ c
-        → (d : Bool) → bytes_eq (codes "search") w ≡ d → Read (w ∷ rest) (subcommand_of words_app (w ∷ rest))
-    go true is b other c third d fourth = session_first w rest is h
-    go false not_session true is c third d fourth = ingest_first w rest is h
-    go false not_session false not_ingest true is d fourth = trace_first w rest is h
-    go false not_session false not_ingest false not_trace true is = search_first w rest is h
-    go false not_session false not_ingest false not_trace false not_search = absurd (other_first w rest not_session not_ingest not_trace not_search h)
+        → (d : Bool) → bytes_eq (codes "search") w ≡ d → (e : Bool) → bytes_eq (codes "drill") w ≡ e → Read (w ∷ rest) (subcommand_of words_app (w ∷ rest))
+    go true is b other c third d fourth e fifth = session_first w rest is h
+    go false not_session true is c third d fourth e fifth = ingest_first w rest is h
+    go false not_session false not_ingest true is d fourth e fifth = trace_first w rest is h
+    go false not_session false not_ingest false not_trace true is e fifth = search_first w rest is h
+    go false not_session false not_ingest false not_trace false not_search true is = drill_first w rest is h
+    go false not_session false not_ingest false not_trace false not_search false not_drill =
+        absurd (other_first w rest not_session not_ingest not_trace not_search not_drill h)

@@ -94,6 +94,21 @@ pub record IsSearch (given : Given) (words : List (List ℕ)) : Type 0 where
   pub end : found_value words (codes "end") ≡ given.end
   pub query : found_value words (codes "query") ≡ Some given.query
 
+-- ---- drills
+
+-- By `clap`'s definition the words name `drill` and give these texts as its seed and as how many traces it makes. The two options
+-- may stand in either order and in any form that `clap` takes, as `--seed=5`.
+pub record IsDrill (seed traces : List ℕ) (words : List (List ℕ)) : Type 0 where
+  pub name : option_map (λ p. p.0) (subcommand_of words_app words) ≡ Some (codes "drill")
+  pub seed_is : found_value words (codes "seed") ≡ Some seed
+  pub traces_are : found_value words (codes "traces") ≡ Some traces
+
+-- The words of a drill as the documents spell them, with these texts as its numbers.
+abbrev pub drill_words : List ℕ → List ℕ → List (List ℕ)
+drill_words seed traces = codes "drill" ∷ codes "--seed" ∷ seed ∷ codes "--traces" ∷ traces ∷ []
+
+-- ---- what is found
+
 -- what the matches of the subcommand give
 abbrev pub given_in : Found → List ℕ → Given
 given_in found query = record {

@@ -33,6 +33,15 @@ search_shape =
     (with_rule (with_rule (with_rule (with_rule (with_rule (new_app (codes "search"))
     (option_rule (codes "limit"))) (option_rule (codes "spss"))) (option_rule (codes "start"))) (option_rule (codes "end"))) query_rule).top
 
+-- An option `--name` with one value that is wanted.
+abbrev pub wanted_option_rule : List ℕ → Rule
+wanted_option_rule name = record (new_rule name) { long = Some name; required = true; action = Some Set }
+
+-- `drill` with its two options.
+abbrev pub drill_shape : Shape
+drill_shape =
+    (with_rule (with_rule (new_app (codes "drill")) (wanted_option_rule (codes "seed"))) (wanted_option_rule (codes "traces"))).top
+
 -- The command without its subcommands: the words begin with the first, a subcommand is wanted, and there is no help.
 abbrev pub bare_app : App
 bare_app = record (new_app (codes "vurnda")) {
@@ -47,4 +56,5 @@ bare_app = record (new_app (codes "vurnda")) {
 -- The whole command.
 unfoldable pub words_app : App
 words_app =
-    with_subcommand (with_subcommand (with_subcommand (with_subcommand bare_app session_shape) ingest_shape) trace_shape) search_shape
+    with_subcommand (with_subcommand (with_subcommand (with_subcommand (with_subcommand bare_app
+    session_shape) ingest_shape) trace_shape) search_shape) drill_shape

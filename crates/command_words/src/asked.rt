@@ -9,6 +9,13 @@ pub enum Asked {
     Session,
     /// Push each line of the input, and keep the store up.
     Ingest,
+    /// Push so many traces that are made from a seed, keep the store up, and search it.
+    Drill {
+        /// From which they are made.
+        seed: u64,
+        /// How many: from 1 to 100,000.
+        traces: u32,
+    },
     /// Answer one request line.
     Alone {
         /// The line that the words make: `trace ID`, or `search` with its options and its query. Each stands in it as

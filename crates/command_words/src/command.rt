@@ -3,7 +3,7 @@
 ghost use Rattle.std.specs.Prelude.{◌≡◌, IfOk, false};
 ghost use Rattle.clap.specs.Words.{app_of, rule_of, shape_of};
 ghost use Rattle.clap.specs.declared.builder.command.Command.TheViews.{out-Command as fields_of};
-ghost use Rattle.command_words.specs.Table.{bare_app, ingest_shape, option_rule, query_rule, search_shape, session_shape, trace_shape, words_app};
+ghost use Rattle.command_words.specs.Table.{bare_app, drill_shape, ingest_shape, option_rule, query_rule, search_shape, session_shape, trace_shape, wanted_option_rule, words_app};
 
 use clap::{Arg, ArgAction, Command};
 use std::alloc::{AllocError, Global};
@@ -16,7 +16,8 @@ pub(crate) fn whole_command<'a>(alloc: Global) -> Result<Command<'a>, AllocError
         .subcommand(session_command(alloc))?
         .subcommand(ingest_command(alloc))?
         .subcommand(trace_command(alloc)?)?
-        .subcommand(search_command(alloc)?)
+        .subcommand(search_command(alloc)?)?
+        .subcommand(drill_command(alloc)?)
 }
 
 // The command without subcommands. It wants one, has no help and no version, and reads its words from the first on.
@@ -68,12 +69,33 @@ fn search_command<'a>(alloc: Global) -> Result<Command<'a>, AllocError>
         .arg(query(alloc))
 }
 
+// `drill` takes two options, which are both wanted.
+fn drill_command<'a>(alloc: Global) -> Result<Command<'a>, AllocError>
+    ensures shape { IfOk result (λ c. shape_of c ≡ drill_shape) }
+    ensures local { IfOk result (λ c. (fields_of c).has_globals ≡ false) }
+{
+    Command::new(alloc, "drill")
+        .arg(wanted_option(alloc, "seed"))?
+        .arg(wanted_option(alloc, "traces"))
+}
+
 // An option with one value.
 fn option<'a>(alloc: Global, name: &'a str) -> Arg<'a>
     ensures rule { rule_of result ≡ option_rule name.entry.now }
     ensures local { result.global ≡ false }
 {
     Arg::new(alloc, name).long(name).action(ArgAction::Set)
+}
+
+// An option with one value, which is wanted.
+fn wanted_option<'a>(alloc: Global, name: &'a str) -> Arg<'a>
+    ensures rule { rule_of result ≡ wanted_option_rule name.entry.now }
+    ensures local { result.global ≡ false }
+{
+    Arg::new(alloc, name)
+        .long(name)
+        .required(true)
+        .action(ArgAction::Set)
 }
 
 // The query, which is wanted.

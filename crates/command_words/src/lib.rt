@@ -2,13 +2,14 @@
 //! crate `clap` with a subcommand for each thing that the program does.
 //!
 //! `read` has the entry point, `read_words`, which `trace_shell` calls. `command` builds the command, `asked` is what
-//! words ask, and `line` makes the request line of a look-up or a search.
+//! words ask, `line` makes the request line of a look-up or a search, and `number` reads the numbers of a drill.
 #![tactic(auto)]
 
 mod asked;
 mod command;
 mod laws;
 mod line;
+mod number;
 mod read;
 
 pub use asked::{Asked, WordsError};

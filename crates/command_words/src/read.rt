@@ -2,27 +2,33 @@
 
 ghost use Rattle.std.specs.Prelude.{◌≡◌, ◌≢◌, ℕ, List, [], Some, true, codes, is_some, map, string_bytes};
 ghost use Rattle.std.specs.Prelude.{IfOk, IfErr};
+ghost use Rattle.clap.specs.Kinds.{or_else};
 ghost use Rattle.clap.specs.Words.{fault_of, first_value, found_of, kind_of, subcommand_of, subcommand_rows_of};
 ghost use Rattle.clap.specs.declared.error.kind.ErrorKind.TheVariants.{OutOfMemory};
-ghost use Rattle.command_words.specs.Commands.{Alone, Spells, command_of};
+ghost use Rattle.command_words.specs.Commands.{Alone, IsDrillGiven, Spells, command_of};
+ghost use Rattle.command_words.specs.Numbers.{seed_fault, traces_fault, word_faults};
 ghost use Rattle.command_words.specs.Spelling.{given_in, search_line, trace_line};
 ghost use Rattle.command_words.specs.Table.{words_app};
 
 use crate::asked::{Asked, WordsError};
 use crate::command::whole_command;
 use crate::line::{search_line, trace_line};
+use crate::number::number_given;
 use clap::error::ErrorKind;
 use clap::{ArgMatches, Error};
 use std::alloc::Global;
+
+/// How many traces a drill makes at most.
+const MOST_TRACES: u64 = 100_000;
 
 /// Reads the words of the command line, those after the program's name and the store's folder. Words that ask
 /// nothing are refused. Memory may be wanted for any words.
 pub fn read_words(alloc: Global, words: &[String]) -> Result<Asked, WordsError>
     // What is read is what the words ask.
     ensures asked { IfOk result (λ asked. Spells (map string_bytes words.now) (command_of asked)) }
-    // Words are refused only where `clap` finds something at fault in them.
+    // Words are refused only where `clap` finds something at fault in them, or a number is out of its range.
     ensures refused { result ≡ Err WordsError.Refused
-        → fault_of words_app (map string_bytes words.now) ≢ [] }
+        → word_faults (map string_bytes words.now) ≢ [] }
 {
     let matches = matches_of(alloc, words)?;
     let Some((name, given)) = matches.subcommand() else {
@@ -31,6 +37,7 @@ pub fn read_words(alloc: Global, words: &[String]) -> Result<Asked, WordsError>
     match name {
         "session" => Ok(Asked::Session),
         "ingest" => Ok(Asked::Ingest),
+        "drill" => asked_drill(alloc, given),
         "trace" => asked_trace(alloc, id_of(given)),
         "search" => asked_search(alloc, given),
         _ => unreachable!(),
@@ -53,6 +60,23 @@ fn matches_of<'a>(alloc: Global, words: &'a [String]) -> Result<ArgMatches<'a>, 
         Ok(matches) => Ok(matches),
         Err(error) => Err(cause_of(&error)),
     }
+}
+
+// The numbers of a drill, each in its range.
+fn asked_drill(alloc: Global, given: &ArgMatches<'_>) -> Result<Asked, WordsError>
+    requires seed { is_some (first_value (found_of given.now) (codes "seed")) ≡ true }
+    requires traces { is_some (first_value (found_of given.now) (codes "traces")) ≡ true }
+    ensures ok { IfOk result (λ asked. IsDrillGiven (found_of given.now) (command_of asked)) }
+    ensures refused { result ≡ Err WordsError.Refused
+        → or_else (seed_fault (first_value (found_of given.now) (codes "seed")))
+        (traces_fault (first_value (found_of given.now) (codes "traces"))) ≢ [] }
+{
+    let seed = number_given(alloc, given, "seed", 0, u64::MAX)?;
+    let traces = number_given(alloc, given, "traces", 1, MOST_TRACES)?;
+    Ok(Asked::Drill {
+        seed,
+        traces: traces as u32,
+    })
 }
 
 // The id that was given.

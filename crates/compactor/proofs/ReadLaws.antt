@@ -233,7 +233,7 @@ found_turned meaning job parts pages bytes after port sizes (Malformed info info
     λ tells. told_whole sizes (meaning.shows port) job parts pages bytes info infos at left all upper e (told tells) (are tells)
 found_turned meaning job parts pages bytes after port sizes (NextBlock info infos rows left all e some count held) upper told are = are
 
--- what is told behind a page that was read
+-- what is told after a page that was read
 pub told_behind : {P : Type 0} (meaning : Meaning P) (job : CompactJob) (parts : List (List Row)) (pages : ℕ) (bytes page : List ℕ) (info : InfoParts) (infos : List InfoParts) (old new : P)
     → IsReading meaning job parts pages bytes old → Called meaning old (ReadPage job.pin.number info.file pages) (Page page) new → blocks_left job parts ≡ info ∷ infos
     → (IsTrue (meaning.tells old) → page ≡ page_of (meaning.shows old info.file) pages) → IsTrue (meaning.tells new) → ShowsRead (meaning.shows new) job parts (pages + 1) (bytes ++ page)

@@ -54,7 +54,7 @@ pub none_found : {P : Type 0} (meaning : Meaning P) (start new : P) (task : Task
 none_found meaning start new task round under ended tells known =
     (subst (λ (t : Task). FindsBlocks meaning t new) ended (under.found known)) (subst IsTrue (sym under.telling) tells)
 
--- a step behind which the round goes on leaves fewer
+-- a step after which the round goes on leaves fewer
 pub leaves_fewer : {P : Type 0} (meaning : Meaning P) (old new : P) (task after : Task) → Steps meaning task old after new → Answers More after → steps_left after ≤ steps_left task - 1
     → steps_left after < steps_left task
 leaves_fewer meaning old new Fresh after one answers left = omega (arith, left)

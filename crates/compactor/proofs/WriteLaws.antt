@@ -180,11 +180,11 @@ may_be_listed meaning job bytes info port is whole tells others holds = record {
 
 -- ---- what leads on
 
--- a call behind which the round has ended
+-- a call after which the round has ended
 pub ends_in : (s : Stage) (c : Call) (r : Round) → Leads s (c ∷ []) r → (calls : List Call) (round : Round) → Leads (stage.Ended r) calls round → Leads s (c ∷ calls) round
 ends_in s c r last calls round (over _) = last
 
--- Whatever is written first of the new block is the first event behind the last page that was read.
+-- Whatever is written first of the new block is the first event after the last page that was read.
 pub from_built : {P : Type 0} (meaning : Meaning P) (old new : P) (job : CompactJob) (parts : List (List Row)) (pages : ℕ) (read bytes : List ℕ) (info : InfoParts) (after : Task)
     → length job.pin.blocks ≤ length parts → IsJoined job.out.file job.level parts bytes info → job.out.written ≡ 0 → OneEvent meaning (Writing job bytes info) old after new
     → OneEvent meaning (Reading job parts pages read) old after new

@@ -18,7 +18,7 @@ abbrev pub IsLeast : Option TraceId → List Row → Type 0
 IsLeast None rows = rows ≡ []
 IsLeast (Some trace) rows = AreFrom trace rows × (length (rows_of_others trace rows) < length rows)
 
--- The next row, if there is one, is moved behind a group.
+-- The next row, if there is one, is moved after a group.
 abbrev pub IsMoved : List Row → List Row → List Row → List Row → Type 0
 IsMoved left rest group new = (row : Row) (rows : List Row) → left ≡ row ∷ rows → (rest ≡ rows) × (new ≡ group ++ row ∷ [])
 
@@ -28,7 +28,7 @@ pub record IsTaking (trace : TraceId) (rows left group : List Row) : Type 0 wher
   pub taken : group ++ rows_of_trace trace left ≡ rows_of_trace trace rows
   pub others : rows_of_others trace left ≡ rows_of_others trace rows
 
--- Whatever first occurrences the rows have that are left come behind those that the builder has taken.
+-- Whatever first occurrences the rows have that are left come after those that the builder has taken.
 pub record IsJoining (rows left : List Row) (form : ℕ) (builder : Builder) : Type 0 where
   pub found : List Row
   pub takes : Takes builder found

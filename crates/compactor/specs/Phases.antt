@@ -63,7 +63,7 @@ pub data Turned (job : CompactJob) (parts : List (List Row)) (pages : ℕ) (byte
       → rows_at info bytes ≡ Ok rows → 1 ≤ length rows → length rows ≡ info.rows → BlockHolds bytes rows
       → Turned job parts pages bytes (Reading job (parts ++ rows ∷ []) 0 [])
 
--- A round came so far: these calls were made, and whatever leads on from where the task is leads, behind them, from the begin.
+-- A round came so far: these calls were made, and whatever leads on from where the task is leads, after them, from the begin.
 pub record IsUnderWay {P : Type 0} (meaning : Meaning P) (start : P) (task : Task) (now : P) : Type 0 where
   pub fits : Fits meaning task now
   pub found : Known meaning start → FindsBlocks meaning task now

@@ -120,7 +120,7 @@ abbrev pub Known : {P : Type 0} → Meaning P → P → Type 0
 Known meaning port = (v : View) × meaning.knows port v
 
 -- Where bytes are told, the task finds no block to be none. Before its begin this wants that the port knows a history; while it reads,
--- that the job's blocks are blocks; behind that, that it found none to be none.
+-- that the job's blocks are blocks; after that, that it found none to be none.
 abbrev pub FindsBlocks : {P : Type 0} → Meaning P → Task → P → Type 0
 FindsBlocks meaning Fresh port = Known meaning port
 FindsBlocks meaning (Reading job parts pages bytes) port = IsTrue (meaning.tells port) → AreBlocks (meaning.shows port) job.pin.blocks
@@ -130,7 +130,7 @@ FindsBlocks meaning (Ended round) port = IsTrue (meaning.tells port) → FoundBl
 
 -- ---- steps
 
--- One call of the port, with which the round goes on: whatever leads on from the stage after it leads on, behind this call, from
+-- One call of the port, with which the round goes on: whatever leads on from the stage after it leads on, after this call, from
 -- the stage before it.
 pub record OneEvent {P : Type 0} (meaning : Meaning P) (before : Task) (old : P) (after : Task) (new : P) : Type 0 where
   pub made : Call

@@ -74,7 +74,7 @@ fn firsts_by_trace(alloc: Global, rows: Rows) -> Result<Rows, Memory>
     Ok(Rows::of(firsts))
 }
 
-// Takes the next row: to the group of its trace, or behind the first occurrences of the traces before it.
+// Takes the next row: to the group of its trace, or after the first occurrences of the traces before it.
 fn take_row(
     alloc: Global,
     row: Row,
@@ -104,7 +104,7 @@ fn begins_other(group: &[Row], row: &Row) -> bool
     }
 }
 
-// Moves the first occurrences among the rows of a trace behind those of the traces before it.
+// Moves the first occurrences among the rows of a trace after those of the traces before it.
 fn settle(alloc: Global, group: &mut Vec<Row>, firsts: &mut Vec<Row>) -> Result<(), Memory>
     ensures emptied { OnOk result (group.new.items ≡ []) }
     ensures added { OnOk result (Settled group.old.items firsts.old.items firsts.new.items) }

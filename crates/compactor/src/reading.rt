@@ -66,7 +66,7 @@ pub(crate) fn file_of(info: &BlockInfo) -> u32
     info.file
 }
 
-// Takes a page of the block that is read, and behind its last page the block's rows.
+// Takes a page of the block that is read, and after its last page the block's rows.
 pub(crate) fn turn(alloc: Global, reading: Progress, page: &[u8; 4096]) -> Phase
     requires more { length reading.parts.items < length reading.job.pin.blocks }
     requires page { HasPage (blocks_left reading.job reading.parts.items) reading.pages }
@@ -140,7 +140,7 @@ fn read_block(alloc: Global, bytes: Bytes, rows: u32) -> Result<ReadBlock, Break
     checked(alloc, bytes, rows)
 }
 
-// Keeps a block, behind those before it.
+// Keeps a block, after those before it.
 fn keep(alloc: Global, reading: Progress, block: ReadBlock) -> Phase
     ensures { (task_of result ≡ Reading reading.job (reading.parts.items ++ block ∷ []) 0 [])
         ⊎ (task_of result ≡ Failing reading.job Memory) }

@@ -3,8 +3,9 @@ use Rattle.std.proofs.Common.{◌≡◌, ℕ, ◌+◌, ◌^◌, ◌<◌, ◌≤�
 use Rattle.std.specs.Prelude.{IsErrOf}
 use Rattle.span_types.specs.Faults.{Rose}
 use Rattle.disk_model.specs.Counts.{Kind, Plain, Writing, IsNear, Raised, RoseBy, MakesCalls, IsOneCall}
-use Rattle.disk_model.specs.Calls.{Counts, Calls, CountsFault}
-use Rattle.disk_model.specs.Crash.{HasCause}
+use Rattle.disk_model.specs.Calls.{Counts, Calls, CountsFault, Passes}
+use Rattle.disk_model.specs.Crash.{Elapses, HasCause}
+use Rattle.disk_model.specs.Images.{Image}
 use Rattle.disk_model.proofs.Counting.{not_both}
 use Rattle.disk_model.specs.declared.disk.Device.{Ghosts}
 
@@ -19,6 +20,19 @@ ok_or_err (Ok x) P ok err = ok refl
 ok_or_err (Err e) P ok err = err refl
 
 module _ {D : Type 0} (g : Ghosts D) where
+  -- no call, a call, and two runs
+  pub passes_none : (disk : D) → Passes g disk disk
+  passes_none disk = record { later = omega arith; keeps = λ start image le left. left }
+
+  pub passes_once : (old new : D) {may_leave : Image → Type 0} → Elapses (g.moment old) (g.moment new) (g.left_since old) (g.left_since new) may_leave → Passes g old new
+  passes_once old new time = record { later = time.later; keeps = time.keeps }
+
+  pub passes_then : (old mid new : D) → Passes g old mid → Passes g mid new → Passes g old new
+  passes_then old mid new first second = record {
+    later = omega (arith, first.later, second.later);
+    keeps = λ start image le left. second.keeps start image (omega (arith, le, first.later)) (first.keeps start image le left);
+  }
+
   -- one call, as the trait has it
   abbrev pub OneCall : {T E : Type 0} → Kind → D → D → Result T E → Type 0
   OneCall kind old new result = IsOneCall g.tells g.faults g.calls g.reads g.far_writes kind old new result
@@ -34,7 +48,7 @@ module _ {D : Type 0} (g : Ghosts D) where
     call_made kind one = let r = raised_by _ _ one.call in record { later = r.later; at_most = r.at_most; all = λ ok room. r.exact room }
 
     -- any call, of a run that answers by it
-    pub call_counts : (kind : Kind) (end : ℕ) → (end < 2 ^ 63 → IsNear kind) → g.moment old ≤ g.moment new → OneCall kind old new result
+    pub call_counts : (kind : Kind) (end : ℕ) → (end < 2 ^ 63 → IsNear kind) → Passes g old new → OneCall kind old new result
         → Counts g end (IsOk result) (IsErr result) old new
     call_counts kind end near time one = record {
       time = time;
@@ -46,7 +60,7 @@ module _ {D : Type 0} (g : Ghosts D) where
     }
 
     -- `len`, `cut` or `sync`, and a write
-    pub plain_calls : (end : ℕ) → g.moment old ≤ g.moment new → OneCall Plain old new result → Calls g 1 end old new result
+    pub plain_calls : (end : ℕ) → Passes g old new → OneCall Plain old new result → Calls g 1 end old new result
     plain_calls end time one = record {
       time = time;
       telling = one.telling;
@@ -58,7 +72,7 @@ module _ {D : Type 0} (g : Ghosts D) where
       no_read = one.read;
     }
 
-    pub write_calls : (end : ℕ) → g.moment old ≤ g.moment new → OneCall (Writing end) old new result → Calls g 1 end old new result
+    pub write_calls : (end : ℕ) → Passes g old new → OneCall (Writing end) old new result → Calls g 1 end old new result
     write_calls end time one = record {
       time = time;
       telling = one.telling;
@@ -142,7 +156,7 @@ module _ {D : Type 0} (g : Ghosts D) where
   -- no call
   pub counts_none : (end : ℕ) (failed : Type 0) (disk : D) → (failed → ⊥) → Counts g end (Unit {0}) failed disk disk
   counts_none end failed disk never = record {
-    time = omega arith;
+    time = passes_none disk;
     telling = refl;
     later = omega arith;
     quiet = λ _. refl;
@@ -156,7 +170,7 @@ module _ {D : Type 0} (g : Ghosts D) where
   counts_then end well not_well fine failed old mid new first is second =
       let same = first.quiet is in
       record {
-        time = omega (arith, first.time, second.time);
+        time = passes_then old mid new first.time second.time;
         telling = second.telling ∙ first.telling;
         later = omega (arith, first.later, second.later);
         quiet = λ f. second.quiet f ∙ same;
@@ -169,7 +183,7 @@ module _ {D : Type 0} (g : Ghosts D) where
   calls_then one two end old mid new first second a ok b =
       let same = a.quiet ok in
       record {
-        time = omega (arith, a.time, b.time);
+        time = passes_then old mid new a.time b.time;
         telling = b.telling ∙ a.telling;
         later = omega (arith, a.later, b.later);
         quiet = λ f. b.quiet f ∙ same;

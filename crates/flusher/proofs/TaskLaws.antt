@@ -122,7 +122,7 @@ still_open meaning new job out there hn hf =
 
 -- ---- what leads on
 
--- a call behind which the round has ended
+-- a call after which the round has ended
 pub ends_in : (s : Stage) (c : Call) (r : Round) → Leads s (c ∷ []) r → (calls : List Call) (round : Round) → Leads (stage.Ended r) calls round → Leads s (c ∷ calls) round
 ends_in s c r last calls round (over _) = last
 
@@ -152,7 +152,7 @@ leads_listed number file size rest none = subst (λ (x : List ℕ). Leads (stage
 pub leads_unlisted : (number file size : ℕ) (rest : List ℕ) (why : WriteError) → rest ≡ [] → Leads (stage.Writing number file rest size) (call (CommitFlush number size) (reply.Refused (write_refusal why)) ∷ []) (Refused (write_cause why))
 leads_unlisted number file size rest why none = subst (λ (x : List ℕ). Leads (stage.Writing number file x size) (call (CommitFlush number size) (reply.Refused (write_refusal why)) ∷ []) (Refused (write_cause why))) (sym none) (unlisted number file size why)
 
--- Whatever is written first of a block is the first event behind the begin.
+-- Whatever is written first of a block is the first event after the begin.
 pub from_start : {P : Type 0} (meaning : Meaning P) (old new : P) (job : FlushJob) (bytes : List ℕ) (info : InfoParts) (after : Task) → IsWriting meaning job bytes info old
     → job.out.written ≡ 0 → OneEvent meaning (Writing job bytes info) old after new → OneEvent meaning (Begun job) old after new
 from_start meaning old new job bytes info after is start one = record {

@@ -17,7 +17,7 @@ task_of (phase.Writing job block) = Writing job block.bytes block.info
 task_of (phase.Failing job why) = Failing job why
 task_of (phase.Ended round) = Ended round
 
--- A round came so far: these calls were made, and whatever leads on from where the task is leads, behind them, from the begin.
+-- A round came so far: these calls were made, and whatever leads on from where the task is leads, after them, from the begin.
 pub record IsUnderWay {P : Type 0} (meaning : Meaning P) (start : P) (task : Task) (now : P) : Type 0 where
   pub fits : Fits meaning task now
   pub calls : List Call

@@ -58,7 +58,7 @@ Fits meaning (Ended round) port = Unit {0}
 
 -- ---- steps
 
--- One call of the port, with which the round goes on: whatever leads on from the stage after it leads on, behind this call, from
+-- One call of the port, with which the round goes on: whatever leads on from the stage after it leads on, after this call, from
 -- the stage before it.
 pub record OneEvent {P : Type 0} (meaning : Meaning P) (before : Task) (old : P) (after : Task) (new : P) : Type 0 where
   pub made : Call

@@ -116,7 +116,7 @@ fn open<P: FlushPort>(alloc: Global, job: FlushJob, port: &mut P) -> Phase
     }
 }
 
-// Gives a job up for want of memory.
+// Gives a job up, since there is no memory.
 fn give_up_begun<P: FlushPort>(job: FlushJob, port: &mut P) -> Phase
     requires { IsOpen P.meaning port.old (flush_of job) }
     ensures steps { OneEvent P.meaning (Begun job) port.old (task_of result) port.new }

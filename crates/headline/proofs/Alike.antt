@@ -28,7 +28,7 @@ use Rattle.session_meaning.specs.Session.{IsFound}
 use Rattle.session_meaning.specs.Stops.{Recovers}
 use Rattle.session_meaning.proofs.Firsts.{trace_alike}
 use Rattle.headline.specs.Headline.{KeepsTheHistory, Tells, TellTheHistory, TellsOf}
-use Rattle.headline.proofs.Histories.{KeptAlike, acts_grow, added_all, added_all_alike, all_alike, all_since, begins_since, line_alike, told_kept, were_alike, were_since}
+use Rattle.headline.proofs.Histories.{KeptAlike, acts_grow, added_all, added_all_alike, all_alike, line_alike, told_kept, were_alike}
 use Rattle.headline.proofs.Kept.{kept_throughout, run_keeps}
 
 -- ---- what is told
@@ -102,9 +102,9 @@ up_alike more h g n same since =
     subst (λ (x : History). AreAlike x (up_to n (grown g more))) (sym (up_to_grown h more n since))
     (subst (AreAlike (grown h few)) (sym of_g) (stay_alike h g few same))
 
-stood_alike : (image : Image) (more : List Entry) (pending : List Pending) (h g : History) → AreAlike h g → ((p : Pending) → Contains pending p → count_of h ≤ p.length)
+stood_alike : (image : Image) (more : List Entry) (pending : List Pending) (h g : History) → AreAlike h g
     → StoodAmid (count_of h) (grown h more) pending image → StoodAmid (count_of g) (grown g more) pending image
-stood_alike image more pending h g same low (inl (n, since, below, stands)) =
+stood_alike image more pending h g same (inl (n, since, below, stands)) =
     let counts = same.counts in
     let of_h = count_grown h more in
     let of_g = count_grown g more in
@@ -114,16 +114,17 @@ stood_alike image more pending h g same low (inl (n, since, below, stands)) =
       omega (arith, counts, below, of_h, of_g),
       stands_for_alike image (up_to n (grown h more)) (up_to n (grown g more)) stands (up_alike more h g n same since),
     )
-stood_alike image more pending h g same low (inr (p, there, below, stands)) =
+stood_alike image more pending h g same (inr (p, there, since, below, stands)) =
     let counts = same.counts in
     let of_h = count_grown h more in
     let of_g = count_grown g more in
     inr (
       p,
       there,
+      omega (arith, counts, since),
       omega (arith, counts, below, of_h, of_g),
       stands_for_alike image (grown (up_to p.length (grown h more)) (p.entry ∷ [])) (grown (up_to p.length (grown g more)) (p.entry ∷ [])) stands
-          (stay_alike (up_to p.length (grown h more)) (up_to p.length (grown g more)) (p.entry ∷ []) (up_alike more h g p.length same (low p there))),
+          (stay_alike (up_to p.length (grown h more)) (up_to p.length (grown g more)) (p.entry ∷ []) (up_alike more h g p.length same since)),
     )
 
 -- ---- a run
@@ -164,7 +165,7 @@ module _ {D : Type 0} (g : Ghosts D) where
       stood image was =
           subst (λ (x : History). StoodAmid (count_of f) x (were_unsure of_f) image) (sym grows_f)
           (subst (λ (ps : List Pending). StoodAmid (count_of f) (grown f more) ps image) (were_alike of_h of_f all)
-          (stood_alike image more (were_unsure of_h) h f same (were_since (count_of h) of_h (all_since (count_of h) acts replies (begun_with h) (begins_since h)))
+          (stood_alike image more (were_unsure of_h) h f same
           (subst (λ (x : History). StoodAmid (count_of h) x (were_unsure of_h) image) (acts_grow acts replies (begun_with h)) was)))
 
       at_moment : (image : Image) → Reached KeepsStored (g.may_leave disk) image ⊎ StoodAmid (count_of h) last.history (were_unsure last) image
@@ -202,14 +203,14 @@ module _ {D : Type 0} (g : Ghosts D) where
     -- On what was left at some moment of it.
     abbrev IsFrontOr : History → Type 0
     IsFrontOr start =
-        ((n : ℕ) × (count_of first ≤ n) × (start ≡ up_to n last.history))
-        ⊎ ((p : Pending) × Contains (were_unsure last) p × (start ≡ grown (up_to p.length last.history) (p.entry ∷ [])))
+        ((n : ℕ) × (count_of first ≤ n) × (n ≤ count_of last.history) × (start ≡ up_to n last.history))
+        ⊎ ((p : Pending) × Contains (were_unsure last) p × (count_of first ≤ p.length) × (p.length ≤ count_of last.history) × (start ≡ grown (up_to p.length last.history) (p.entry ∷ [])))
 
     pub stopped_keeps : ((image : Image) → g.may_leave begun image → ImageStandsFor image first) → g.left_since left (g.moment begun) (g.held disk)
         → (start : History) × IsFrontOr start × GoesOn start
     stopped_keeps at_first since = by_image (kept_throughout g begun left acts replies first last kept at_first (g.held disk) since)
       where
         by_image : StoodAmid (count_of first) last.history (were_unsure last) (g.held disk) → (start : History) × IsFrontOr start × GoesOn start
-        by_image (inl (n, since_first, below, stands)) = (up_to n last.history, inl (n, since_first, refl), go_on (up_to n last.history) stands)
-        by_image (inr (p, there, below, stands)) =
-            let start = grown (up_to p.length last.history) (p.entry ∷ []) in (start, inr (p, there, refl), go_on start stands)
+        by_image (inl (n, since_first, below, stands)) = (up_to n last.history, inl (n, since_first, below, refl), go_on (up_to n last.history) stands)
+        by_image (inr (p, there, since_first, below, stands)) =
+            let start = grown (up_to p.length last.history) (p.entry ∷ []) in (start, inr (p, there, since_first, below, refl), go_on start stands)

@@ -1,8 +1,6 @@
 -- What follows where replies tell a history.
-use Rattle.std.proofs.Common.{◌≡◌, inl, inr, ℕ, zero, suc, ◌+◌, ◌-◌, ◌≤◌, ◌==◌, Bool, true, false, List, [], ◌∷◌, ◌++◌, Option, None, Some, append_assoc, append-nil, arith, ap, length, refl, sym, ◌∙◌, subst, if◌then◌else◌}
+use Rattle.std.proofs.Common.{◌≡◌, ℕ, ◌+◌, ◌-◌, ◌≤◌, ◌==◌, Bool, true, false, List, [], ◌∷◌, ◌++◌, Option, None, Some, append_assoc, append-nil, arith, ap, length, refl, sym, ◌∙◌, subst, if◌then◌else◌}
 use Rattle.std.proofs.lemmas.List.{take_all}
-use Rattle.std.proofs.lemmas.List.Elements.{Contains-append_cases}
-use Rattle.std.specs.List.{Contains}
 use Rattle.session_text.specs.declared.reply.Reply.{Reply}
 use Rattle.session_text.specs.declared.reply.Reply.TheVariants.{Reopened}
 use Rattle.store_entries.specs.declared.entry.Entry.{Entry}
@@ -173,41 +171,3 @@ added_all_alike (a ∷ more) [] k l same = refl
 added_all_alike (a ∷ more) (r ∷ rs) k l same =
     ap (λ (es : List Entry). es ++ added_all (kept_after k a r) more rs) (added_alike a r k l same)
     ∙ ap (λ (es : List Entry). added_by l a r ++ es) (added_all_alike more rs (kept_after k a r) (kept_after l a r) (line_alike a r k l same))
-
--- ---- entries that weren't sure
-
--- The history has at least so many entries, and so it had where an entry wasn't sure.
-pub record Since (least : ℕ) (k : Kept) : Type 0 where
-  pub now : least ≤ count_of k.history
-  pub early : (p : Pending) → Contains k.pending p → least ≤ p.length
-
-now_since : (least : ℕ) (h : History) (u : Option Entry) → least ≤ count_of h → (p : Pending) → Contains (pending_now h u) p → least ≤ p.length
-now_since least h None low p there = absurd (let none = there.1 in omega (arith, none))
-now_since least h (Some entry) low p (zero, less, is) = subst (λ (x : Pending). least ≤ x.length) is low
-now_since least h (Some entry) low p (suc n, less, is) = absurd (omega (arith, less))
-
-pub were_since : (least : ℕ) (k : Kept) → Since least k → (p : Pending) → Contains (were_unsure k) p → least ≤ p.length
-were_since least k since p there = elim (Contains-append_cases k.pending (pending_now k.history k.unsure) p there) [
-  | inl early ↦ since.early p early
-  | inr now ↦ now_since least k.history k.unsure since.now p now
-]
-
-line_since : (least : ℕ) (act : Act) (r : Reply) (k : Kept) → Since least k → Since least (kept_after k act r)
-line_since least act r k since = by_act act r (longer (kept_after k act r).history (added_by k act r) (act_grows k act r))
-  where
-    longer : (h : History) (more : List Entry) → h ≡ grown k.history more → least ≤ count_of h
-    longer h more is = let long = no_shorter k.history h more is in let low = since.now in omega (arith, long, low)
-
-    by_act : (a : Act) (x : Reply) → least ≤ count_of (kept_after k a x).history → Since least (kept_after k a x)
-    by_act (Ask item) x low = record { now = low; early = since.early }
-    by_act (Reopen moment) (Reopened entries) low = record { now = low; early = were_since least k since }
-    by_act (Reopen moment) _ low = record { now = low; early = since.early }
-    by_act Unread x low = record { now = low; early = since.early }
-
-pub all_since : (least : ℕ) (acts : List Act) (replies : List Reply) (k : Kept) → Since least k → Since least (kept_after_all k acts replies)
-all_since least [] replies k since = since
-all_since least (a ∷ more) [] k since = since
-all_since least (a ∷ more) (r ∷ rs) k since = all_since least more rs (kept_after k a r) (line_since least a r k since)
-
-pub begins_since : (h : History) → Since (count_of h) (begun_with h)
-begins_since h = record { now = omega arith; early = λ p there. absurd (let none = there.1 in omega (arith, none)) }

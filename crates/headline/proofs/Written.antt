@@ -1,15 +1,16 @@
 -- What is written in a store that was opened is the text of the replies, or a first part of it.
-use Rattle.std.proofs.Common.{Bool, false, ◌≡◌, inl, inr, ◌∙◌, ℕ, ◌+◌, suc, List, [], ◌∷◌, ◌++◌, Option, Some, IsTrue, ap, append-nil, append_assoc, arith, length, refl, sym, subst, take}
+use Rattle.std.proofs.Common.{Bool, false, ◌≡◌, inl, inr, ◌∙◌, ℕ, ◌+◌, suc, List, [], ◌∷◌, ◌++◌, Option, Some, None, IsTrue, ap, append-nil, append_assoc, arith, length, refl, sym, subst, take}
 use Rattle.std.specs.Prelude.{IfSome}
 use Rattle.std.proofs.lemmas.List.{take_all}
 use Rattle.std.specs.Io.KnownBytes.{Appends}
-use Rattle.command_words.specs.Commands.{Alone, Command, Ingest as ingest, Session as session, Spells}
+use Rattle.command_words.specs.Commands.{Alone, Command, Drill as drill, Ingest as ingest, Session as session, Spells}
 use Rattle.io_edges.specs.Devices.{AppendsPrefix}
 use Rattle.session_text.specs.declared.reply.Reply.{Reply}
 use Rattle.session_text.specs.Replies.{reply_text}
 use Rattle.session_meaning.specs.declared.ending.Ending.{Ending}
 use Rattle.session_meaning.specs.declared.ending.Ending.TheVariants.{Answered, BadWords, NotOpened, NotStore, ReadFault, Refused, Spent, Starved, WriteFault}
-use Rattle.session_meaning.specs.Runs.{DoesInStore, Edges, HasAnswered, HasIngested, HasRun, IsRunOf, Outcome, TellsAll}
+use Rattle.session_meaning.specs.Drill.{EndsDrilling, drill_text}
+use Rattle.session_meaning.specs.Runs.{DoesInStore, Edges, HasAnswered, HasIngested, HasRun, IsRunOf, Outcome, TellsAll, text_written}
 use Rattle.session_meaning.specs.Session.{Ends, EndsAlone, IsCutOff, reply_texts}
 use Rattle.session_meaning.proofs.SessionLaws.{reply_texts-push}
 
@@ -83,6 +84,26 @@ appends : (before text : Bytes) (old new : Option Bytes) → old ≡ Some before
 appends before text old new was (count, is) =
     (count, subst (λ (o : Option Bytes). Appends o new (take count text)) (sym was) (subst (λ (n : Option Bytes). Appends (Some before) n (take count text)) (sym is) refl))
 
+appends_all : (text : Bytes) (old new : Option Bytes) → Appends old new text → AppendsPrefix old new text
+appends_all text old new all = (length text, subst (λ (bs : Bytes). Appends old new bs) (sym (all_of text)) all)
+
+appends_none : (text : Bytes) (old new : Option Bytes) → new ≡ old → AppendsPrefix old new text
+appends_none text None new is = (0, tt)
+appends_none text (Some before) new is = (0, subst (λ (n : Option Bytes). Appends (Some before) n []) (sym is) (sym (append-nil before)))
+
+-- what a drill writes
+drill_front : (e : Ending) (replies : List Reply) (old new : Option Bytes) → EndsDrilling e replies old new → AppendsPrefix old new (drill_text replies)
+drill_front Answered replies old new h = appends_all (drill_text replies) old new h.0
+drill_front Refused replies old new h = appends_all (drill_text replies) old new h.0
+drill_front Starved replies old new (inl h) = appends_all (drill_text replies) old new h.0
+drill_front Starved replies old new (inr h) = appends_none (drill_text replies) old new h
+drill_front WriteFault replies old new h = h
+drill_front ReadFault replies old new h = absurd h
+drill_front Spent replies old new h = absurd h
+drill_front BadWords replies old new h = absurd h
+drill_front NotOpened replies old new h = absurd h
+drill_front (NotStore file at) replies old new h = absurd h
+
 opened_or_not : (b : Bool) → IsTrue b → b ≡ false → ⊥
 opened_or_not b held failed = cc
 
@@ -105,18 +126,22 @@ module _ (told : Bool) (o : Outcome) (old new : Edges) where
   alone_writes line before did =
       subst (λ (rs : List Reply). IsFront before (reply_texts rs) new.taken) (sym did.replies_are) (alone_front o.ending before did.reply new.taken did.ends)
 
-  does_write : (c : Command) → TellsAll c old → DoesInStore told c o old new → AppendsPrefix old.taken new.taken (reply_texts o.replies)
+  does_write : (c : Command) → TellsAll c old → DoesInStore told c o old new → AppendsPrefix old.taken new.taken (text_written c o.replies)
   does_write session (text, before, left, taken) does =
       let did = as_run text before left taken does in
       appends before (reply_texts o.replies) old.taken new.taken taken (ends_front o.ending text did.later new.left before o.replies new.taken did.ends)
   does_write ingest (text, before, left, taken) does =
       let did = as_ingested text before left taken does in
       appends before (reply_texts o.replies) old.taken new.taken taken (ends_front o.ending text did.later new.left before o.replies new.taken did.ends)
+  does_write (drill seed traces) (before, taken) does = elim does.came [
+    | inl all ↦ drill_front o.ending o.replies old.taken new.taken all.1
+    | inr halt ↦ appends_none (drill_text o.replies) old.taken new.taken halt.2
+  ]
   does_write (Alone line) (before, taken) does =
       appends before (reply_texts o.replies) old.taken new.taken taken (alone_writes line before (as_answered line before taken does.1))
 
 pub run_writes : (told : Bool) (words : List Bytes) (c : Command) (o : Outcome) (old new : Edges) → Spells words c → IsRunOf told words o old new → TellsAll c old → IsTrue o.opened
-    → AppendsPrefix old.taken new.taken (reply_texts o.replies)
+    → AppendsPrefix old.taken new.taken (text_written c o.replies)
 run_writes told words c o old new spells run tells opened = elim (run.does c spells) [
   | inl did ↦ does_write told o old new c tells did.3
   | inr not ↦ absurd (opened_or_not o.opened opened not.0)

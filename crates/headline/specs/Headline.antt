@@ -38,6 +38,7 @@ TellsOfNoPush (Pushed number accepted rejected skipped) = ⊥
 TellsOfNoPush (Traced as_of rows) = ⊥
 TellsOfNoPush (Searched as_of fields results) = ⊥
 TellsOfNoPush (Measured as_of series) = ⊥
+TellsOfNoPush (Reopened entries) = ⊥
 TellsOfNoPush _ = ⊤
 
 -- What a line may be told at a history. An accepted push is told how many pushes came before it, and how much of it was kept.

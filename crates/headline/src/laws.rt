@@ -28,8 +28,8 @@ ghost use Rattle.session_meaning.specs.Place.{Place};
 ghost use Rattle.session_meaning.specs.Kept.{Kept, begun_with, kept_after_all, kept_at, were_unsure};
 ghost use Rattle.session_meaning.specs.Progress.{AreAnsweredOver};
 ghost use Rattle.session_meaning.specs.Pushes.{accepted_entries, accepted_entry, known_pushes};
-ghost use Rattle.session_meaning.specs.Runs.{Edges, IsRunOf, Outcome, TellsAll};
-ghost use Rattle.session_meaning.specs.Session.{Session, reply_texts};
+ghost use Rattle.session_meaning.specs.Runs.{Edges, IsRunOf, Outcome, TellsAll, text_written};
+ghost use Rattle.session_meaning.specs.Session.{Session};
 ghost use Rattle.session_meaning.specs.Stops.{Recovers};
 ghost use Rattle.headline.specs.Headline.{KeepsTheHistory, TellTheHistory, TellsFront};
 ghost use Rattle.headline.specs.Requests.{HasHistory, KeepsFrom};
@@ -41,7 +41,7 @@ use store_core::Core;
 
 /// The headline. Every answer of a run is TraceQL's meaning over the first occurrences of the spans in one front of
 /// the history of pushes. That front has each push that was acknowledged before. Whatever a crash leaves of the disk
-/// afterwards stands for that history to its end. `trace_shell::run` ensures the premises; `true` says that the disk
+/// afterwards stands for that history to its end, and it may be for one push more that was answered `disk-fault`. `trace_shell::run` ensures the premises; `true` says that the disk
 /// shows its bytes.
 pub fn the_headline<D: Device>(disk: &D, later: &D)
     ensures answers { (words : List (List ℕ)) (o : Outcome) (old new : Edges)
@@ -94,19 +94,21 @@ pub fn the_next_run_goes_on<D: Device>(begun: &D, left: &D, disk: &D, later: &D)
         → ((image : Image) → D.may_leave begun.now image → ImageStandsFor image first)
         → D.left_since left.now (D.moment begun.now) (D.held disk.now)
         → (start : History)
-        × (((n : ℕ) × (count_of first ≤ n) × (start ≡ up_to n last.history))
-        ⊎ ((p : Pending) × Contains (were_unsure last) p
+        × (((n : ℕ) × (count_of first ≤ n) × (n ≤ count_of last.history) × (start ≡ up_to n last.history))
+        ⊎ ((p : Pending) × Contains (were_unsure last) p × (count_of first ≤ p.length)
+        × (p.length ≤ count_of last.history)
         × (start ≡ grown (up_to p.length last.history) (p.entry ∷ []))))
         × KeepsTheHistory D.Device.own disk.now later.now o.acts o.replies
         start (kept_after_all (begun_with start) o.acts o.replies) }
 {}
 
-/// What is written in a store that was opened is the text of these replies, or a first part of it.
+/// What is written in a store that was opened is the text of these replies, or a first part of it; of a drill, the line
+/// that counts its replies and the text of the last three.
 pub fn replies_are_written()
     ensures { (told : Bool) (words : List (List ℕ)) (c : Command) (o : Outcome) (old new : Edges)
         → Spells words c
         → IsRunOf told words o old new → TellsAll c old → IsTrue o.opened
-        → AppendsPrefix old.taken new.taken (reply_texts o.replies) }
+        → AppendsPrefix old.taken new.taken (text_written c o.replies) }
 {}
 
 /// Where replies tell a history, each tells one front of the last one: with each push that was accepted before, or that

@@ -22,7 +22,7 @@ pub fn entries_come_in_parts()
         → open_from held (a ++ b) ≡ open_from (open_from held a) b }
 {}
 
-/// What entries make of a history is what they added, behind what it had.
+/// What entries make of a history is what they added, after what it had.
 pub fn entries_grow_the_history()
     ensures { (h : History) (entries : List Entry)
         → history_from h entries ≡ grown h (added_by entries) }

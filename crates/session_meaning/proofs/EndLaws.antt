@@ -1,9 +1,9 @@
 -- A run in which no call failed comes to its own end.
-use Rattle.std.proofs.Common.{◌≡◌, ◌⊎◌, inl, inr, ◌∙◌, ℕ, ◌+◌, ◌≤◌, Bool, true, false, List, Option, Some, None, ap, arith, length, length-append, map, refl, subst, if◌then◌else◌}
+use Rattle.std.proofs.Common.{◌≡◌, ◌⊎◌, inl, inr, ◌∙◌, ℕ, ◌+◌, ◌≤◌, Bool, true, false, List, Option, Some, None, ap, arith, length, length-append, map, refl, subst, sym, if◌then◌else◌}
 use Rattle.std.specs.Prelude.{IfSome}
 use Rattle.std.specs.List.{list_any}
 use Rattle.clap.specs.Words.{Kinds}
-use Rattle.command_words.specs.Commands.{Alone, Command, Ingest as ingest, Session as session, Spells}
+use Rattle.command_words.specs.Commands.{Alone, Command, Drill as drill, Ingest as ingest, Session as session, Spells}
 use Rattle.command_words.proofs.Spelled.{spelled_clean}
 use Rattle.disk_model.specs.Images.{Image}
 use Rattle.disk_model.proofs.CallRuns.{raised_rose}
@@ -15,7 +15,9 @@ use Rattle.session_meaning.specs.declared.ending.Ending.TheVariants.{Answered, B
 use Rattle.session_text.specs.Items.{Item}
 use Rattle.session_meaning.specs.Act.{Act}
 use Rattle.session_meaning.specs.Act.Act.{Ask}
+use Rattle.session_meaning.specs.Asked.{after_moment}
 use Rattle.session_meaning.specs.Done.{AreDone}
+use Rattle.session_meaning.specs.Drill.{CameThrough, EndsDrilling}
 use Rattle.session_meaning.specs.Place.{opened_at}
 use Rattle.session_meaning.specs.Pushes.{HasRoomFor}
 use Rattle.session_meaning.specs.Runs.{ComesToItsEnd, DoesInStore, Edges, EndsUnopened, FitsWords, GoesWell, HasAnswered, HasCause, HasIngested, HasItsStore, HasRun, IsNoStore, IsRunOf, NeedsNoSource, Outcome, ReadsWell}
@@ -45,6 +47,21 @@ by_ending Spent b w r n x s = absurd (s refl)
 not_bad : (sure : Bool) (words : List (List ℕ)) (c : Command) (o : Outcome) (old new : Edges) → Spells words c → IsRunOf sure words o old new → o.ending ≡ BadWords → ⊥
 not_bad sure words c o old new s run = subst (λ (k : Kinds). FitsWords k o.ending) (spelled_clean words c s) run.words_fit
 
+-- a drill ends only as it may
+ends_elsewhere : (seed traces : ℕ) (e ending : Ending) (told : Option (List ℕ)) (items : List Item) (replies : List Reply) (refused : List (List ℕ)) (to_tell old_taken taken : Option (List ℕ))
+    → (EndsDrilling e replies old_taken taken → ⊥) → (Starved ≡ e → ⊥) → CameThrough seed traces ending told items replies refused to_tell old_taken taken → ending ≡ e → ⊥
+ends_elsewhere seed traces e ending told items replies refused to_tell old_taken taken none other (inl (all, ends)) is =
+    none (subst (λ (k : Ending). EndsDrilling k replies old_taken taken) is ends)
+ends_elsewhere seed traces e ending told items replies refused to_tell old_taken taken none other (inr (halt, starved, same)) is = other (sym starved ∙ is)
+
+-- where a drill ends with a refusal, one is among the replies
+refused_among : (seed traces : ℕ) (ending : Ending) (told : Option (List ℕ)) (items : List Item) (replies : List Reply) (refused : List (List ℕ)) (to_tell old_taken taken : Option (List ℕ))
+    → CameThrough seed traces ending told items replies refused to_tell old_taken taken → ending ≡ Refused → end_of replies ≡ Refused
+refused_among seed traces ending told items replies refused to_tell old_taken taken (inl (all, ends)) is =
+    (subst (λ (k : Ending). EndsDrilling k replies old_taken taken) is ends).1
+refused_among seed traces ending told items replies refused to_tell old_taken taken (inr (halt, starved, same)) is =
+    let bad : Starved ≡ Refused = sym starved ∙ is in let no : ⊥ = cc in absurd no
+
 module _ (sure : Bool) (words : List (List ℕ)) (o : Outcome) (old new : Edges) (run : IsRunOf sure words o old new) where
   caused : (e : Ending) → o.ending ≡ e → HasCause e old new
   caused e is = subst (λ (k : Ending). HasCause k old new) is run.cause
@@ -71,6 +88,18 @@ module _ (sure : Bool) (words : List (List ℕ)) (o : Outcome) (old new : Edges)
   pub run_ends : (c : Command) → Spells words c → GoesWell c old new → ComesToItsEnd o.ending
   run_ends session s well = source_ends session s well
   run_ends ingest s well = source_ends ingest s well
+  run_ends (drill seed traces) s well =
+      by_ending o.ending (not_bad sure words (drill seed traces) o old new s run)
+      (λ is. well.1 (caused WriteFault is))
+      (λ is. drilled_so ReadFault is (λ d. d) (λ s. let bad : ⊥ = cc in bad) (λ u. u))
+      (opens well.0) (is_store well.0)
+      (λ is. drilled_so Spent is (λ d. d) (λ s. let bad : ⊥ = cc in bad) (λ u. u))
+    where
+      drilled_so : (e : Ending) → o.ending ≡ e → (EndsDrilling e o.replies old.taken new.taken → ⊥) → (Starved ≡ e → ⊥) → (EndsUnopened e old new.taken → ⊥) → ⊥
+      drilled_so e is none other unopened = elim (run.does (drill seed traces) s) [
+        | inl did ↦ ends_elsewhere seed traces e o.ending (after_moment old.moments) did.3.items o.replies o.refused new.moments old.taken new.taken none other did.3.came is
+        | inr not ↦ unopened (subst (λ (k : Ending). EndsUnopened k old new.taken) is not.1.ends)
+      ]
   run_ends (Alone line) s well =
       by_ending o.ending (not_bad sure words (Alone line) o old new s run)
       (λ is. well.1 (caused WriteFault is))
@@ -115,12 +144,15 @@ module _ (sure : Bool) (words : List (List ℕ)) (o : Outcome) (old new : Edges)
       let at_text : IfSome (Some well.3) (λ text. IfSome old.taken (λ b. HasIngested sure text b o old new)) =
       subst (λ (l : Option (List ℕ)). IfSome l (λ text. IfSome old.taken (λ b. HasIngested sure text b o old new))) well.4 does in
       refused_ingest well.3 before (subst (λ (t : Option (List ℕ)). IfSome t (λ b. HasIngested sure well.3 b o old new)) told at_text) e
+  refused_in (drill seed traces) well before told does e =
+      refused_among seed traces o.ending (after_moment old.moments) does.items o.replies o.refused new.moments old.taken new.taken does.came e
   refused_in (Alone line) well before told does e =
       refused_alone line before (subst (λ (t : Option (List ℕ)). IfSome t (λ b. HasAnswered line b o old new)) told does.1) e
 
   store_well : (c : Command) → GoesWell c old new → HasItsStore old new
   store_well session well = well.0
   store_well ingest well = well.0
+  store_well (drill seed traces) well = well.0
   store_well (Alone line) well = well.0
 
   pub run_ends_well : sure ≡ true → (c : Command) → Spells words c → GoesWell c old new → (before : List ℕ) → old.taken ≡ Some before → (items : List Item) → o.acts ≡ map Ask items

@@ -1,11 +1,12 @@
 -- No line is refused in reading for a fault of the disk, so each run tells of all that were.
 use Rattle.std.specs.Prelude.{⊤}
-use Rattle.std.proofs.Common.{◌≡◌, ◌≢◌, inl, inr, ◌∙◌, ℕ, Bool, true, false, ◌||◌, nat_le, List, [], ◌∷◌, ◌++◌, codes, Option, Some, None, Result, Ok, Err, if◌then◌else◌, length, map, refl, sym, ap, subst}
+use Rattle.std.proofs.Common.{◌≡◌, ◌≢◌, inl, inr, ◌∙◌, ℕ, zero, suc, ◌+◌, Bool, true, false, ◌||◌, nat_le, List, [], ◌∷◌, ◌++◌, codes, Option, Some, None, Result, Ok, Err, if◌then◌else◌, length, map, refl, sym, ap, subst}
 use Rattle.std.specs.Prelude.{IfSome}
 use Rattle.std.specs.Str.{bytes_eq, is_utf8}
 use Rattle.std.specs.List.{list_any}
-use Rattle.command_words.specs.Commands.{Alone, Command, Ingest as ingest, Session as session, Spells}
+use Rattle.command_words.specs.Commands.{Alone, Command, Drill as drill, Ingest as ingest, Session as session, Spells}
 use Rattle.disk_model.specs.Counts.{RoseBy}
+use Rattle.drill_input.specs.Drill.{drill_line}
 use Rattle.io_edges.specs.Lines.{line_limit, lines}
 use Rattle.otlp_spans.specs.Fields.{trace_id_of}
 use Rattle.otlp_spans.specs.Reading.{Given, NoJson, TooManySpans, WrongForm, reading_of}
@@ -30,7 +31,8 @@ use Rattle.session_meaning.specs.Act.{Act, ComesTo}
 use Rattle.session_meaning.specs.Act.Act.{Ask, Reopen, Unread}
 use Rattle.session_meaning.specs.Asked.{AreAsked, after_moment}
 use Rattle.session_meaning.specs.Causes.{act_blames_disk, blames_disk, disk_faults, is_disk_fault}
-use Rattle.session_meaning.specs.Ingest.{Asks, AsksLine, AtTheEnd, Compacts, Far, Ingests, KeptSmall, LinesPushed, Part, Pushes, Stand, Then}
+use Rattle.session_meaning.specs.Drill.{CameThrough, LinesMade, drill_searches, is_flushed_after, upkeep_after}
+use Rattle.session_meaning.specs.Ingest.{AreJoined, Asks, AsksLine, AtTheEnd, Compacts, Far, Ingests, KeptSmall, LinesPushed, Part, Pushes, Stand, Then}
 use Rattle.session_meaning.specs.Ingest.Far.{so_far, whole}
 use Rattle.session_meaning.specs.Runs.{CameSoFar, DoesInStore, Edges, HasAnswered, HasIngested, HasRun, IsRunOf, Outcome, TellsAll}
 use Rattle.session_meaning.specs.Place.{opened_at}
@@ -236,6 +238,42 @@ came_none sure Starved all pushed before after items replies h = ingest_none sur
 came_none sure Refused all pushed before after items replies h = ingest_none sure all before after items replies whole h
 came_none sure Spent all pushed before after items replies h = pushes_none sure pushed before after items replies h
 
+-- ---- the parts of a drill
+
+upkeep_none : (b : Bool) (later : List Item) → list_any blames_disk later ≡ false → list_any blames_disk ((if b then Ok request.CutAll ∷ Ok request.Flush ∷ [] else []) ++ later) ≡ false
+upkeep_none true later none = add_none (Ok request.CutAll) (Ok request.Flush ∷ later) refl (add_none (Ok request.Flush) later refl none)
+upkeep_none false later none = none
+
+made_none : (seed traces index count : ℕ) (told to_tell : Option (List ℕ)) (items : List Item) → LinesMade seed traces index count told items to_tell → list_any blames_disk items ≡ false
+made_none seed traces index zero told to_tell items nothing = ap (list_any blames_disk) nothing.0
+made_none seed traces index (suc count) told to_tell items (moment, item, later, next, asks, are, rest) =
+    ap (list_any blames_disk) are
+    ∙ add_none item (upkeep_after index traces ++ later) (push_asked_none moment (drill_line seed index) item asks)
+    (upkeep_none (is_flushed_after index traces) later (made_none seed traces (index + 1) count (after_moment told) to_tell later rest))
+
+compactions_none : (items : List Item) (replies : List Reply) → AreJoined items replies → list_any blames_disk items ≡ false
+compactions_none [] replies joined = refl
+compactions_none (item ∷ items) [] joined = absurd joined
+compactions_none (item ∷ items) (reply ∷ replies) joined = add_none item items (ap blames_disk joined.0) (compactions_none items replies joined.2)
+
+unmapped_none : (items : List Item) → list_any act_blames_disk (map Ask items) ≡ false → list_any blames_disk items ≡ false
+unmapped_none [] none = refl
+unmapped_none (i ∷ is) none =
+    let parts = both_none (blames_disk i) (list_any act_blames_disk (map Ask is)) none in
+    add_none i is parts.0 (unmapped_none is parts.1)
+
+drill_none : (seed traces : ℕ) (e : Ending) (told : Option (List ℕ)) (items : List Item) (replies : List Reply) (refused : List (List ℕ)) (to_tell old_taken taken : Option (List ℕ))
+    → CameThrough seed traces e told items replies refused to_tell old_taken taken → list_any blames_disk items ≡ false
+drill_none seed traces e told items replies refused to_tell old_taken taken (inl (all, ends)) =
+    ap (list_any blames_disk) all.items_are
+    ∙ joined_none all.pushes (all.compactions ++ Ok request.Compact ∷ Ok request.Reclaim ∷ all.searches)
+    (made_none seed traces 0 traces told all.between all.pushes all.are_made)
+    (joined_none all.compactions (Ok request.Compact ∷ Ok request.Reclaim ∷ all.searches) (compactions_none all.compactions all.joined all.are_joined)
+    (add_none (Ok request.Compact) (Ok request.Reclaim ∷ all.searches) refl (add_none (Ok request.Reclaim) all.searches refl
+    (unmapped_none all.searches (all_none drill_searches all.between (map Ask all.searches) refused all.are_asked)))))
+drill_none seed traces e told items replies refused to_tell old_taken taken (inr (halt, starved, same)) =
+    made_none seed traces 0 halt.count told to_tell items halt.are_made
+
 -- ---- a run
 
 some_is : {T : Type 0} (o : Option T) (x : T) (P : T → Type 0) → o ≡ Some x → IfSome o P → P x
@@ -249,6 +287,9 @@ acts_none sure ingest o old new (text, before, source, sink) did =
     let ran = some_is old.taken before (λ b. HasIngested sure text b o old new) sink (some_is old.left text (λ t. IfSome old.taken (λ b. HasIngested sure t b o old new)) source did) in
     ap (list_any act_blames_disk) ran.acts_are
     ∙ mapped_none ran.items (came_none sure o.ending (lines text) ran.pushed (record { store = o.first; moments = after_moment old.moments }) (record { store = o.last.store; moments = new.moments }) ran.items o.replies ran.asked)
+acts_none sure (drill seed traces) o old new tells did =
+    ap (list_any act_blames_disk) did.acts_are
+    ∙ mapped_none did.items (drill_none seed traces o.ending (after_moment old.moments) did.items o.replies o.refused new.moments old.taken new.taken did.came)
 acts_none sure (Alone line) o old new (before, sink) did =
     let ran = some_is old.taken before (λ b. HasAnswered line b o old new) sink did.1 in
     ap (list_any act_blames_disk) ran.acts_are

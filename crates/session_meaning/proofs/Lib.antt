@@ -27,10 +27,12 @@ mod Places
 pub mod OnDisk
 pub mod CoreSessions
 pub mod StoreSessions
+pub mod FoundBytes
 pub mod EndLaws
 pub mod Unsure
 pub mod IngestLaws
 mod FewerBlocks
 mod IngestRounds
+mod DrillLaws
 pub mod IngestParts
 pub mod Following

@@ -1,8 +1,11 @@
 -- A line for which a store has room is refused for no cause but memory, or its own words, as long as the disk doesn't fail.
-use Rattle.std.proofs.Common.{◌≡◌, inl, inr, ◌∙◌, true, ℕ, ◌≤◌, List, [], ◌∷◌, ◌++◌, None, Result, Ok, Err, ap, arith, length, refl, sym, subst}
+use Rattle.std.proofs.Common.{◌≡◌, inl, inr, ◌∙◌, true, false, ℕ, ◌≤◌, List, [], ◌∷◌, ◌++◌, None, Result, Ok, Err, ap, arith, length, refl, sym, subst}
 use Rattle.span_types.specs.Faults.{Rose}
+use Rattle.disk_model.proofs.CallRuns.{raised_rose}
 use Rattle.otlp_spans.specs.declared.read.Reading.{Reading}
-use Rattle.command_words.specs.Commands.{Alone, Command, Ingest as ingest, Session as session, Spells}
+use Rattle.command_words.specs.Commands.{Alone, Command, Drill as drill, Ingest as ingest, Session as session, Spells}
+use Rattle.session_text.specs.declared.refusal.Refusal.{Refusal}
+use Rattle.session_text.specs.declared.refusal.Refusal.TheVariants.{DiskFault, Memory, NotStore}
 use Rattle.session_text.specs.declared.reply.Reply.{Reply}
 use Rattle.session_text.specs.declared.reply.Reply.TheVariants.{Compacted, Cut, CutAll, Flushed, NothingCompacted, NothingFlushed, Refused, Reopened}
 use Rattle.session_text.specs.declared.request.Request.TheVariants as request
@@ -17,7 +20,7 @@ use Rattle.session_meaning.specs.Act.Act.{Ask, Reopen, Unread}
 use Rattle.session_meaning.specs.At.{At}
 use Rattle.session_meaning.specs.Done.{AreDone, IsDone}
 use Rattle.session_meaning.specs.Place.{Place, opened_at}
-use Rattle.session_meaning.specs.Pushes.{HasRoomNow}
+use Rattle.session_meaning.specs.Pushes.{HasRoomNow, NeedsNoWrite}
 use Rattle.session_meaning.specs.Runs.{Edges, GoesWell, HasItsStore, IsRunOf, Outcome}
 use Rattle.session_meaning.specs.Session.{IsAnsweredOrRefused, Session, is_refusal, is_refused}
 use Rattle.session_meaning.specs.Upkeep.{HasFailedSince, HasNoJob}
@@ -41,6 +44,26 @@ push_plain : (reading : Reading) (moment : ℕ) (answer : Result ℕ PushError) 
 push_plain reading moment answer m m' (kept told history writes rows files closed) = count_plain reading answer (count_of m.history) told
 push_plain reading moment answer m m' (starved told same) = starved_plain reading answer told
 
+-- A query and a cut, and a line that asks nothing, need no store that writes.
+pub line_without_write : (item : Item) (before after : At) (r : Reply) → IsAnsweredOrRefused true item before r after → (Rose before.faults after.faults → ⊥)
+    → NeedsNoWrite item → is_refusal r ≡ is_refused item
+line_without_write (Ok (request.Trace id)) before after r (inl (rows, found, is, still)) well needs = ap is_refusal is
+line_without_write (Ok (request.Trace id)) before after r (inr (why, is, cause, still)) well needs = ap is_refusal is ∙ query_plain why before after cause well
+line_without_write (Ok (request.Search s)) before after r (inl (results, found, is, still)) well needs = ap is_refusal is
+line_without_write (Ok (request.Search s)) before after r (inr (why, is, cause, still)) well needs = ap is_refusal is ∙ query_plain why before after cause well
+line_without_write (Ok (request.Metrics m)) before after r (inl (results, series, found, are, is, still)) well needs = ap is_refusal is
+line_without_write (Ok (request.Metrics m)) before after r (inr (why, is, cause, still)) well needs = ap is_refusal is ∙ query_plain why before after cause well
+line_without_write (Ok (request.Cut moment)) before after r (inl (answer, is, step)) well needs = ap is_refusal is ∙ cut_plain Cut answer (λ moved. refl)
+line_without_write (Ok (request.Cut moment)) before after r (inr bad) well needs = absurd bad
+line_without_write (Ok request.CutAll) before after r (inl (answer, is, step)) well needs = ap is_refusal is ∙ cut_plain CutAll answer (λ moved. refl)
+line_without_write (Ok request.CutAll) before after r (inr bad) well needs = absurd bad
+line_without_write (Err why) before after r (inl (is, same)) well needs = ap is_refusal is
+line_without_write (Err why) before after r (inr bad) well needs = absurd bad
+line_without_write (Ok (request.Push reading moment)) before after r is well bad = absurd bad
+line_without_write (Ok request.Flush) before after r is well bad = absurd bad
+line_without_write (Ok request.Compact) before after r is well bad = absurd bad
+line_without_write (Ok request.Reclaim) before after r is well bad = absurd bad
+
 pub line_with_room : (item : Item) (before after : At) (r : Reply) → IsAnsweredOrRefused true item before r after → (Rose before.faults after.faults → ⊥) → before.machine.read_only ≡ None
     → HasNoJob before.machine → HasRoomNow item before.machine → is_refusal r ≡ is_refused item
 line_with_room (Ok (request.Push reading moment)) before after r (inl (answer, is, step)) well writes closed room =
@@ -49,16 +72,6 @@ line_with_room (Ok (request.Push reading moment)) before after r (inl (answer, i
     subst IsPlain (sym is) (push_plain reading moment answer before.machine after.machine
     (taken before.faults after.faults before.machine after.machine spans moment (push_reply answer) early well step.1))
 line_with_room (Ok (request.Push reading moment)) before after r (inr bad) well writes closed room = absurd bad
-line_with_room (Ok (request.Trace id)) before after r (inl (rows, found, is, still)) well writes closed room = ap is_refusal is
-line_with_room (Ok (request.Trace id)) before after r (inr (why, is, cause, still)) well writes closed room = ap is_refusal is ∙ query_plain why before after cause well
-line_with_room (Ok (request.Search s)) before after r (inl (results, found, is, still)) well writes closed room = ap is_refusal is
-line_with_room (Ok (request.Search s)) before after r (inr (why, is, cause, still)) well writes closed room = ap is_refusal is ∙ query_plain why before after cause well
-line_with_room (Ok (request.Metrics m)) before after r (inl (results, series, found, are, is, still)) well writes closed room = ap is_refusal is
-line_with_room (Ok (request.Metrics m)) before after r (inr (why, is, cause, still)) well writes closed room = ap is_refusal is ∙ query_plain why before after cause well
-line_with_room (Ok (request.Cut moment)) before after r (inl (answer, is, step)) well writes closed room = ap is_refusal is ∙ cut_plain Cut answer (λ moved. refl)
-line_with_room (Ok (request.Cut moment)) before after r (inr bad) well writes closed room = absurd bad
-line_with_room (Ok request.CutAll) before after r (inl (answer, is, step)) well writes closed room = ap is_refusal is ∙ cut_plain CutAll answer (λ moved. refl)
-line_with_room (Ok request.CutAll) before after r (inr bad) well writes closed room = absurd bad
 line_with_room (Ok request.Flush) before after r (inl (round, is, flushed)) well writes closed room =
     let on = flush_without_faults before round after flushed well writes (λ again. closed) room in
     subst IsPlain (sym is) (round_plain (λ blocks rows. Flushed rows) NothingFlushed round (λ blocks rows. refl) refl on.0)
@@ -71,8 +84,12 @@ line_with_room (Ok request.Reclaim) before after r (inl (answer, is, step)) well
     let on = reclaim_room before.faults after.faults before.machine after.machine (reclaim_reply answer) well writes step.1 in
     subst IsPlain (sym is) (reclaim_plain answer on.0)
 line_with_room (Ok request.Reclaim) before after r (inr bad) well writes closed room = absurd bad
-line_with_room (Err why) before after r (inl (is, same)) well writes closed room = ap is_refusal is
-line_with_room (Err why) before after r (inr bad) well writes closed room = absurd bad
+line_with_room (Ok (request.Trace id)) before after r is well writes closed room = line_without_write (Ok (request.Trace id)) before after r is well tt
+line_with_room (Ok (request.Search s)) before after r is well writes closed room = line_without_write (Ok (request.Search s)) before after r is well tt
+line_with_room (Ok (request.Metrics m)) before after r is well writes closed room = line_without_write (Ok (request.Metrics m)) before after r is well tt
+line_with_room (Ok (request.Cut moment)) before after r is well writes closed room = line_without_write (Ok (request.Cut moment)) before after r is well tt
+line_with_room (Ok request.CutAll) before after r is well writes closed room = line_without_write (Ok request.CutAll) before after r is well tt
+line_with_room (Err why) before after r is well writes closed room = line_without_write (Err why) before after r is well tt
 
 -- ---- lines one after another
 
@@ -144,11 +161,21 @@ pub each_with_room : (front back : List Act) (item : Item) (earlier later : List
 each_with_room front back item earlier later reply first last as_many h well writes closed =
     lines_with_room front back item earlier later reply first last as_many h well (record { writes = writes; closed = closed })
 
+-- ---- a store that is opened again
+
+pub reopening_without_faults : (moment : ℕ) (before after : Place) (why : Refusal) → IsDone true (Reopen moment) before (Refused why) after
+    → (Rose before.store.faults after.store.faults → ⊥) → why ≡ Memory
+reopening_without_faults moment before after Memory h quiet = refl
+reopening_without_faults moment before after DiskFault h quiet = absurd (quiet (raised_rose before.store.faults after.store.faults h.1.2))
+reopening_without_faults moment before after (NotStore file at) h quiet = let bad : true ≡ false = h.0 in cc
+reopening_without_faults moment before after _ h quiet = absurd h.0
+
 -- ---- a run
 
 its_store : (c : Command) (old new : Edges) → GoesWell c old new → HasItsStore old new
 its_store session old new well = well.0
 its_store ingest old new well = well.0
+its_store (drill seed traces) old new well = well.0
 its_store (Alone line) old new well = well.0
 
 some_act : (front back : List Act) (act : Act) → front ++ act ∷ back ≡ [] → ⊥

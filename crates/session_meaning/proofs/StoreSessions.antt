@@ -353,7 +353,7 @@ asks_over g (i ∷ is) [] old new h = absurd h
 asks_over g (i ∷ is) (r ∷ rs) old new h = (Open h.0, (h.0, refl, one_asked g old h.0 i r h.1), asks_over g is rs h.0 new h.2)
 
 -- the disk tells its bytes then if it did before
-one_tells : {D : Type 0} (g : Ghosts D) (act : Act) (old new : Store D) (reply : Reply) → IsDoneOver g act old reply new → IsTrue (g.tells (disk_of old)) → IsTrue (g.tells (disk_of new))
+pub one_tells : {D : Type 0} (g : Ghosts D) (act : Act) (old new : Store D) (reply : Reply) → IsDoneOver g act old reply new → IsTrue (g.tells (disk_of old)) → IsTrue (g.tells (disk_of new))
 one_tells {D} g (Ask item) (Open core) new reply (later, is, one) tells =
     subst (λ (x : Store D). IsTrue (g.tells (disk_of x))) (sym is) (subst IsTrue (sym (tells_kept (port_of g) core later one.calls one.made)) tells)
 one_tells g (Ask item) (Closed disk) new reply bad tells = absurd bad

@@ -23,7 +23,7 @@ use Rattle.session_meaning.specs.Session.{IsAnsweredOrRefused}
 -- ---- a reopening
 
 -- An opening finds all that was kept: the history, or that and then the entry that wasn't sure. The store begins as one that is opened
--- at this moment on an image that stands for it, one of these. If the store wrote until then, and no opening failed in a call of the disk
+-- at this moment on an image that stands for it, one of these: in a run, of those that a crash may have left (`found` of `Recovers`). If the store wrote until then, and no opening failed in a call of the disk
 -- since, the image lists its state.
 pub record FindsAgain (left : Image → Type 0) (moment : ℕ) (before : Place) (after : At) : Type 0 where
   pub history : MayHaveAdded before.unsure (history_at before) (history_of after)
@@ -43,8 +43,8 @@ pub record IsOpenedAgain (told : Bool) (left : Image → Type 0) (moment : ℕ) 
   pub agrees : Agrees after.machine
   pub found : told ≡ true → FindsAgain left moment before after
 
--- Why an opening is refused: a call of the disk failed in it; the disk's bytes are no store's, and what it holds isn't told; or, for
--- memory, at any time. That a call failed the count of faults says.
+-- Why an opening is refused: a call of the disk failed in it, which the count of faults says; or, for memory, at any time. It is never
+-- refused for its bytes where what the disk holds is told, and so a store's; where it isn't, which bytes that may be is said by `FindsBytes`.
 abbrev pub HasOpeningCause : Bool → Refusal → Type 0
 HasOpeningCause told DiskFault = ⊤
 HasOpeningCause told (NotStore file at) = told ≡ false

@@ -4,6 +4,7 @@ pub mod Place
 pub mod Kept
 pub mod Listed
 pub mod Done
+pub mod Drill
 pub mod Over
 pub mod Asked
 pub mod Statuses

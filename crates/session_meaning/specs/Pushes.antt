@@ -1,6 +1,6 @@
 -- What the replies of a session tell of its pushes.
 use Rattle.std.specs.Prelude.{◌≡◌, ℕ, ⊤, ◌+◌, ◌*◌, ◌<◌, ◌≤◌, List, [], ◌∷◌, ◌++◌, length, Option, Some, None, Ok}
-use Rattle.session_text.specs.declared.request.Request.TheVariants.{Compact, Flush, Push}
+use Rattle.session_text.specs.declared.request.Request.TheVariants.{Compact, Flush, Push, Reclaim}
 use Rattle.session_text.specs.declared.refusal.Refusal.TheVariants.{DiskFault}
 use Rattle.session_text.specs.declared.reply.Reply.{Reply}
 use Rattle.session_text.specs.declared.reply.Reply.TheVariants.{Pushed, Traced, Searched, Measured, Refused}
@@ -98,3 +98,11 @@ HasRoomNow (Ok (Push reading moment)) m =
 HasRoomNow (Ok Flush) m = m.state.next_file < 4294967294
 HasRoomNow (Ok Compact) m = m.state.next_file < 4294967294
 HasRoomNow _ m = ⊤
+
+-- A store that doesn't write does it too: it asks for rows, or for a cut, or for nothing.
+abbrev pub NeedsNoWrite : Item → Type 0
+NeedsNoWrite (Ok (Push reading moment)) = ⊥
+NeedsNoWrite (Ok Flush) = ⊥
+NeedsNoWrite (Ok Compact) = ⊥
+NeedsNoWrite (Ok Reclaim) = ⊥
+NeedsNoWrite _ = ⊤

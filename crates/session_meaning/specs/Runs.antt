@@ -1,7 +1,7 @@
 -- What a run of the program does.
 use Rattle.std.specs.Prelude.{◌≡◌, ◌≢◌, ◌⊎◌, ⊤, ℕ, ◌<◌, ◌≤◌, Bool, false, List, [], ◌∷◌, ◌++◌, Option, Some, None, IfSome, IsTrue, if◌then◌else◌, length, map}
 use Rattle.std.specs.Io.KnownBytes.{Appends}
-use Rattle.clap.specs.Words.{Kinds, fault_of}
+use Rattle.clap.specs.Words.{Kinds}
 use Rattle.span_types.specs.Faults.{Rose}
 use Rattle.io_edges.specs.Devices.{AppendsPrefix}
 use Rattle.io_edges.specs.Lines.{lines, taken_limit}
@@ -9,8 +9,8 @@ use Rattle.io_edges.specs.Reader.{TakesBytes}
 use Rattle.disk_model.specs.Counts.{Raised}
 use Rattle.disk_model.specs.Images.{Image}
 use Rattle.disk_model.specs.declared.disk.Device.{Ghosts}
-use Rattle.command_words.specs.Commands.{Alone, Command, Ingest as ingest, Session as session, Spells}
-use Rattle.command_words.specs.Table.{words_app}
+use Rattle.command_words.specs.Commands.{Alone, Command, Drill as drill, Ingest as ingest, Session as session, Spells}
+use Rattle.command_words.specs.Numbers.{word_faults}
 use Rattle.session_text.specs.declared.reply.Reply.{Reply}
 use Rattle.session_text.specs.Items.{Item}
 use Rattle.session_text.specs.Replies.{not_store_text}
@@ -25,10 +25,11 @@ use Rattle.session_meaning.specs.Act.Act.{Ask}
 use Rattle.session_meaning.specs.Asked.{AreAsked, AsksNext, IsNextMoment, after_lines, after_moment}
 use Rattle.session_meaning.specs.At.{At, history_of}
 use Rattle.session_meaning.specs.Done.{AreDone}
+use Rattle.session_meaning.specs.Drill.{CameThrough, drill_text}
 use Rattle.session_meaning.specs.Ingest.{Ingests, Pushes, Stand}
 use Rattle.session_meaning.specs.Ingest.Far.{so_far, whole}
 use Rattle.session_meaning.specs.Place.{Place, opened_at}
-use Rattle.session_meaning.specs.Session.{Ends, EndsAlone}
+use Rattle.session_meaning.specs.Session.{Ends, EndsAlone, reply_texts}
 
 -- What the outside tells at a moment: the bytes that the source has left and those that the sink has taken, the moments that
 -- the clock has to give, and the bytes that the disk holds, each where it tells them; the counts of faults; and how many writes
@@ -163,12 +164,27 @@ pub record HasAnswered (line before : List ℕ) (o : Outcome) (old new : Edges) 
   pub clock : new.moments ≡ after_moment (after_moment old.moments)
   pub ends : EndsAlone o.ending before reply new.taken
 
+-- A drill took nothing of the source, it was asked what a drill asks, from the clock's moments after the opening's on, and the line that
+-- counts its replies, and the last three of them, stand written as the ending says.
+pub record HasDrilled (seed traces : ℕ) (o : Outcome) (old new : Edges) : Type 0 where
+  pub items : List Item
+  pub acts_are : o.acts ≡ map Ask items
+  pub left : new.left ≡ old.left
+  pub came : CameThrough seed traces o.ending (after_moment old.moments) items o.replies o.refused new.moments old.taken new.taken
+
 -- A run ends so in a store that was opened, if it does.
 abbrev pub IsPastOpening : Ending → Type 0
 IsPastOpening BadWords = ⊥
 IsPastOpening NotOpened = ⊥
 IsPastOpening (NotStore file at) = ⊥
 IsPastOpening _ = ⊤
+
+-- The command takes nothing of the source.
+abbrev pub TakesNothing : Command → Type 0
+TakesNothing session = ⊥
+TakesNothing ingest = ⊥
+TakesNothing (drill seed traces) = ⊤
+TakesNothing (Alone line) = ⊤
 
 -- The source has no part in the ending.
 abbrev pub NeedsNoSource : Ending → Type 0
@@ -181,6 +197,7 @@ NeedsNoSource _ = ⊤
 abbrev pub DoesInStore : Bool → Command → Outcome → Edges → Edges → Type 0
 DoesInStore told session o old new = IfSome old.left (λ text. IfSome old.taken (λ before. HasRun text before o old new))
 DoesInStore told ingest o old new = IfSome old.left (λ text. IfSome old.taken (λ before. HasIngested told text before o old new))
+DoesInStore told (drill seed traces) o old new = HasDrilled seed traces o old new
 DoesInStore told (Alone line) o old new =
     NeedsNoSource o.ending × IfSome old.taken (λ before. HasAnswered line before o old new)
 
@@ -194,6 +211,7 @@ Does told c o old new =
 abbrev pub OnlyAsks : Command → List Act → Type 0
 OnlyAsks session acts = ⊤
 OnlyAsks ingest acts = (items : List Item) × (acts ≡ map Ask items)
+OnlyAsks (drill seed traces) acts = (items : List Item) × (acts ≡ map Ask items)
 OnlyAsks (Alone line) acts = (items : List Item) × (acts ≡ map Ask items)
 
 -- ---- how a run may end
@@ -208,8 +226,8 @@ HasCause (NotStore file at) old new = IsNoStore file at old.held
 HasCause Spent old new = TakesBytes old.left new.left 0 taken_limit
 HasCause _ old new = ⊤
 
--- The ending fits what `clap` by its own definition finds at fault in the words: where it finds nothing they aren't told
--- to be faulty, and where it finds something they are, unless memory ran out.
+-- The ending fits what is at fault in the words, by `clap`'s own definition or in a number: where nothing is they aren't told to be
+-- faulty, and where something is they are, unless memory ran out.
 abbrev pub FitsWords : Kinds → Ending → Type 0
 FitsWords [] ending = ending ≢ BadWords
 FitsWords (fault ∷ faults) ending = (ending ≡ BadWords) ⊎ (ending ≡ Starved)
@@ -219,7 +237,7 @@ FitsWords (fault ∷ faults) ending = (ending ≡ BadWords) ⊎ (ending ≡ Star
 -- A run on these words between the edges as they were and as they are: what the words ask was done and answered in order, from the
 -- store as it was opened on, and the ending has its cause. `told` says that what the blocks of the store hold is told.
 pub record IsRunOf (told : Bool) (words : List (List ℕ)) (o : Outcome) (old new : Edges) : Type 0 where
-  pub words_fit : FitsWords (fault_of words_app words) o.ending
+  pub words_fit : FitsWords (word_faults words) o.ending
   pub does : (c : Command) → Spells words c → Does told c o old new
   pub asks : (c : Command) → Spells words c → OnlyAsks c o.acts
   pub session : AreDone told (opened_at o.first) o.acts o.replies o.last
@@ -232,6 +250,12 @@ abbrev pub HasItsStore : Edges → Edges → Type 0
 HasItsStore old new =
     (image : Image) × (old.held ≡ Some image) × IsSoundImage image × (Rose old.disk_faults new.disk_faults → ⊥)
 
+-- What a run with these replies writes in a store that was opened, if it writes all: their texts, and of a drill the line that counts them
+-- and the last three.
+abbrev pub text_written : Command → List Reply → List ℕ
+text_written (drill seed traces) replies = drill_text replies
+text_written _ replies = reply_texts replies
+
 -- No call of the disk, the sink and the source failed, the disk holds a store, and the source has fewer bytes than a run takes.
 abbrev pub ReadsWell : Edges → Edges → Type 0
 ReadsWell old new =
@@ -242,6 +266,7 @@ ReadsWell old new =
 abbrev pub TellsAll : Command → Edges → Type 0
 TellsAll session old = (text before : List ℕ) × (old.left ≡ Some text) × (old.taken ≡ Some before)
 TellsAll ingest old = (text before : List ℕ) × (old.left ≡ Some text) × (old.taken ≡ Some before)
+TellsAll (drill seed traces) old = (before : List ℕ) × (old.taken ≡ Some before)
 TellsAll (Alone line) old = (before : List ℕ) × (old.taken ≡ Some before)
 
 -- No call failed that the command makes, the disk holds a store, and where the command reads the source, that has fewer bytes than
@@ -249,6 +274,7 @@ TellsAll (Alone line) old = (before : List ℕ) × (old.taken ≡ Some before)
 abbrev pub GoesWell : Command → Edges → Edges → Type 0
 GoesWell session old new = ReadsWell old new
 GoesWell ingest old new = ReadsWell old new
+GoesWell (drill seed traces) old new = HasItsStore old new × (Rose old.sink_faults new.sink_faults → ⊥)
 GoesWell (Alone line) old new = HasItsStore old new × (Rose old.sink_faults new.sink_faults → ⊥)
 
 -- All was answered, and nothing was refused or some of it.

@@ -64,7 +64,7 @@ pub record IsFound (asked : Asked) (history : History) (results : List TraceResu
 abbrev pub IsSure : Bool → At → Type 0
 IsSure told at = (told ≡ true) ⊎ (at.machine.state.blocks ≡ [])
 
--- A query sees all rows that wait outside of blocks, in some order, and behind them rows of the blocks: none, where no block is listed.
+-- A query sees all rows that wait outside of blocks, in some order, and after them rows of the blocks: none, where no block is listed.
 -- Where it is sure what the blocks hold, all these have the first occurrences of the history.
 pub record AreSeen (told : Bool) (at : At) (rows : List Row) : Type 0 where
   pub outside : List Row

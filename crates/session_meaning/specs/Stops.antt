@@ -1,19 +1,25 @@
 -- What is stored and what upkeep has left, after a run and whenever it is stopped.
-use Rattle.std.specs.Prelude.{◌≡◌, ◌≢◌, ◌⊎◌, ℕ, ◌≤◌, true, false, [], None, IsTrue}
+use Rattle.std.specs.Prelude.{◌≡◌, ◌≢◌, ◌⊎◌, ⊤, ℕ, ◌≤◌, true, false, List, [], ◌∷◌, Option, None, Some, IfSome, IsTrue}
 use Rattle.std.specs.List.{Contains}
 use Rattle.span_types.specs.First.{IsFirstOf}
 use Rattle.span_types.specs.declared.spans.Row.{Row}
+use Rattle.block_list.specs.Loading.{KeepsList}
 use Rattle.disk_model.specs.Images.{Image}
 use Rattle.disk_model.specs.Crash.{Reached}
 use Rattle.disk_model.specs.declared.disk.Device.{Ghosts}
+use Rattle.session_text.specs.declared.refusal.Refusal.TheVariants.{Memory, NotStore}
+use Rattle.session_text.specs.declared.reply.Reply.{Reply}
+use Rattle.session_text.specs.declared.reply.Reply.TheVariants.{Refused}
 use Rattle.store_model.specs.History.{count_of}
 use Rattle.store_model.specs.RowSets.{Within}
 use Rattle.store_model.specs.State.{State, live_rows, state_rows}
 use Rattle.store_images.specs.Stored.{ImageStandsFor, IsTidy, KeepsStored, MayStandFor}
-use Rattle.store_core.specs.Opening.{BeginsAs, LeavesAlone, opened_state}
+use Rattle.store_core.specs.Opening.{BeginsAs, LeavesAlone, StoreBreaks, opened_state}
 use Rattle.store_core.specs.Waiting.{rows_outside}
 use Rattle.store_reopen.specs.Through.{StoodAmid}
 use Rattle.session_meaning.specs.declared.ending.Ending.TheVariants.{NotOpened}
+use Rattle.session_meaning.specs.Act.{Act}
+use Rattle.session_meaning.specs.Act.Act.{Reopen}
 use Rattle.session_meaning.specs.At.{At, history_of}
 use Rattle.session_meaning.specs.Listed.{HaveKeyOf, ListsState}
 use Rattle.session_meaning.specs.Done.{AreDoneAmong}
@@ -70,6 +76,42 @@ pub record BeginsListed (image : Image) (u : State) (moment : ℕ) (first : Stat
   pub given : first.next_file ≤ u.next_file
   pub waits : Within (rows_outside u) (live_rows first.live)
   pub known : (row : Row) → Contains (live_rows first.live) row → HaveKeyOf (state_rows u) row
+
+-- ---- openings over whatever bytes
+
+-- A store that is opened again is refused for its bytes only where one of these images breaks, first at that place of that file.
+abbrev pub FitsBytes : (Image → Type 0) → Act → Reply → Type 0
+FitsBytes left (Reopen moment) (Refused (NotStore file at)) = (image : Image) × left image × StoreBreaks image file at
+FitsBytes left act reply = ⊤
+
+-- the same of each line and its reply
+abbrev pub FitBytes : (Image → Type 0) → List Act → List Reply → Type 0
+FitBytes left [] replies = ⊤
+FitBytes left (act ∷ acts) [] = ⊤
+FitBytes left (act ∷ acts) (reply ∷ replies) = FitsBytes left act reply × FitBytes left acts replies
+
+-- The place at which the bytes broke for which a store is closed, after a line: that of the last opening that was refused for them. One
+-- that is refused for memory leaves all bytes alone; after one that goes well, or fails in a call of the disk, there is none.
+abbrev pub broken_at : Option (ℕ × ℕ) → Act → Reply → Option (ℕ × ℕ)
+broken_at before (Reopen moment) (Refused (NotStore file at)) = Some (file, at)
+broken_at before (Reopen moment) (Refused Memory) = before
+broken_at before (Reopen moment) reply = None
+broken_at before act reply = before
+
+abbrev pub broken_after : Option (ℕ × ℕ) → List Act → List Reply → Option (ℕ × ℕ)
+broken_after before [] replies = before
+broken_after before (act ∷ acts) [] = before
+broken_after before (act ∷ acts) (reply ∷ replies) = broken_after (broken_at before act reply) acts replies
+
+-- Bytes that break first there are held still, but that a vacant slot of the list may have been cut to its first byte.
+abbrev pub HoldsBroken : Image → ℕ × ℕ → Type 0
+HoldsBroken held place = (image : Image) × StoreBreaks image place.0 place.1 × KeepsList image held
+
+-- Over a disk that shows its bytes, whatever they are: what each opening again is refused for, a crash may have left since the run began;
+-- and if the store is closed for its bytes at the end, the disk that is handed back holds them. An input may end after any line.
+pub record FindsBytes {D : Type 0} (g : Ghosts D) (disk later : D) (o : Outcome) : Type 0 where
+  pub fit : IsTrue (g.tells disk) → FitBytes (g.left_since later (g.moment disk)) o.acts o.replies
+  pub closed : IsTrue (g.tells disk) → IfSome (broken_after None o.acts o.replies) (HoldsBroken (g.held later))
 
 -- ---- a run
 

@@ -23,6 +23,7 @@ ghost use Rattle.query_fanout.specs.declared.searching.Asked.{Asked};
 ghost use Rattle.spanset_eval.specs.declared.results.TraceResult.{TraceResult};
 ghost use Rattle.otlp_spans.specs.declared.read.Reading.{Reading};
 ghost use Rattle.session_text.specs.declared.refusal.Refusal.{Refusal};
+ghost use Rattle.session_text.specs.declared.refusal.Refusal.TheVariants.{Memory};
 ghost use Rattle.session_text.specs.declared.reply.Reply.{Reply};
 ghost use Rattle.session_text.specs.declared.reply.Reply.TheVariants.{Pushed, Reclaimed, Refused};
 ghost use Rattle.session_text.specs.declared.request.Request.TheVariants.{Push, Reclaim};
@@ -48,10 +49,11 @@ ghost use Rattle.store_state.specs.declared.rounds.Refusal.{Refusal as Cause};
 ghost use Rattle.store_state.specs.declared.rounds.Round.{Round};
 ghost use Rattle.store_state.specs.declared.rounds.Round.TheVariants.{Did, Nothing, Refused as IsRefused};
 ghost use Rattle.session_meaning.specs.Act.{Act};
-ghost use Rattle.session_meaning.specs.Act.Act.{Ask};
+ghost use Rattle.session_meaning.specs.Act.Act.{Ask, Reopen};
 ghost use Rattle.session_meaning.specs.Answering.{AreItemsAnswered, CallsLead, IsAnsweredByCalls, at_core};
 ghost use Rattle.session_meaning.specs.Causes.{HasCompactCause, HasFlushCause, HasPushCause, HasWriteCause, act_blames_disk, blames_disk, disk_faults};
-ghost use Rattle.session_meaning.specs.Done.{AreDone, AreDoneAmong};
+ghost use Rattle.session_meaning.specs.Done.{AreDone, AreDoneAmong, IsDone};
+ghost use Rattle.session_meaning.specs.Drill.{Drills};
 ghost use Rattle.session_meaning.specs.Kept.{begun_with, kept_after_all, kept_at, were_unsure};
 ghost use Rattle.session_meaning.specs.Listed.{ListsState};
 ghost use Rattle.session_meaning.specs.Over.{AreDoneOver, IsKeptAt, IsShownAt};
@@ -59,11 +61,11 @@ ghost use Rattle.session_meaning.specs.Place.{Place, opened_at};
 ghost use Rattle.session_meaning.specs.Rounds.{HasJoined, HasListed, IsCompacted, IsDoneOrStarved, IsFlushed, IsRound};
 ghost use Rattle.session_meaning.specs.declared.ending.Ending.TheVariants.{Answered, NotOpened, Starved};
 ghost use Rattle.session_meaning.specs.Progress.{AreAnsweredOver, FollowsOver};
-ghost use Rattle.session_meaning.specs.Pushes.{HasRoomFor, HasRoomForPush, HasRoomNow, accepted_entries, known_pushes};
+ghost use Rattle.session_meaning.specs.Pushes.{HasRoomFor, HasRoomForPush, HasRoomNow, NeedsNoWrite, accepted_entries, known_pushes};
 ghost use Rattle.session_meaning.specs.Runs.{ComesToItsEnd, Edges, GoesWell, IsRunOf, Outcome, TellsAll};
 ghost use Rattle.session_meaning.specs.At.{At, IsStill, history_of};
 ghost use Rattle.session_meaning.specs.Duties.{Duty, Follows, duties, from_lines};
-ghost use Rattle.session_meaning.specs.Ingest.{AreJoined, Far, HasFinished, Ingests, Pushes, Stand};
+ghost use Rattle.session_meaning.specs.Ingest.{AreJoined, Far, HasFinished, Ingests, Pushes, Stand, is_joined};
 ghost use Rattle.session_meaning.specs.Ingest.Far.{so_far, whole};
 ghost use Rattle.session_meaning.specs.Session.{IsAnswered, IsAnsweredOrRefused, IsFound, IsFoundSeen, IsSure, IsTraceIn, IsTraceSeen, Session, is_refusal, is_refused};
 ghost use Rattle.session_meaning.specs.Stops.{AreTidy, BeginsListed, Recovers, StandsForLast, StandsWithin};
@@ -345,13 +347,18 @@ pub fn comes_to_an_end()
 {}
 
 /// What is asked of a store that has room for it is refused for no cause but memory, or its own words: whatever was
-/// asked before, so also late in a long session or ingest. What the blocks hold is told.
+/// asked before, so also late in a long session or ingest. An opening too is refused for no cause but memory, if no call
+/// of the disk fails. What the blocks hold is told.
 pub fn what_has_room_is_done()
     // Of a store that writes and has no job open, where no call of the disk fails.
     ensures one { (item : Item) (before after : At) (reply : Reply)
         → IsAnsweredOrRefused true item before reply after → (Rose before.faults after.faults → ⊥)
         → before.machine.read_only ≡ None → HasNoJob before.machine
         → HasRoomNow item before.machine → is_refusal reply ≡ is_refused item }
+    // A query and a cut, of any store.
+    ensures no_write { (item : Item) (before after : At) (reply : Reply)
+        → IsAnsweredOrRefused true item before reply after → (Rose before.faults after.faults → ⊥)
+        → NeedsNoWrite item → is_refusal reply ≡ is_refused item }
     // Each line, at its own place: from such a store on, over reopenings, as long as no call fails.
     ensures each { (front back : List Act) (item : Item) (earlier later : List Reply)
         (reply : Reply) (first last : Place) → length front ≡ length earlier
@@ -368,6 +375,10 @@ pub fn what_has_room_is_done()
         → length front ≡ length earlier
         → (at : Place) × AreDone true (opened_at o.first) front earlier at × (at.is_open ≡ true)
         × (HasRoomNow item at.store.machine → is_refusal reply ≡ is_refused item) }
+    // A store that is opened again, if no call of the disk fails.
+    ensures reopened { (moment : ℕ) (before after : Place) (why : Refusal)
+        → IsDone true (Reopen moment) before (Refused why) after
+        → (Rose before.store.faults after.store.faults → ⊥) → why ≡ Memory }
 {}
 
 /// What an ingest asks is asked and answered as in a session, so all that is said of sessions is said of it.
@@ -393,6 +404,14 @@ pub fn an_ingest_finishes()
     ensures { (told : Bool) (source : List (List ℕ)) (before after : Stand) (items : List Item)
         (replies : List Reply)
         → Ingests told source before items replies after whole → HasFinished items replies }
+{}
+
+/// A drill that did all compacted until a compaction joined no blocks.
+pub fn a_drill_compacts_to_its_end()
+    ensures { (sure : Bool) (seed traces : ℕ) (told to_tell : Option (List ℕ))
+        (items : List Item) (replies : List Reply) (refused : List (List ℕ)) (first last : At)
+        → (d : Drills seed traces told items replies refused to_tell)
+        → Session sure first items replies last → is_joined d.last ≡ false }
 {}
 
 /// What a flush makes of the store.
@@ -449,8 +468,8 @@ pub fn compactions_have_their_causes()
     ensures joined { (told : Bool) (before after : At) (blocks rows : ℕ)
         → IsCompacted told before (Did blocks rows) after
         → HasJoined told before.machine blocks rows after.machine }
-    // Without faults, in a store that writes, has file numbers left and tells what its blocks hold, it is done or
-    // memory was wanted.
+    // Without faults, in a store that writes, has file numbers left and tells what its blocks hold, it is done, or there
+    // was no memory for it.
     ensures well { (before after : At) (round : Round) → (Rose before.faults after.faults → ⊥)
         → before.machine.read_only ≡ None → IsClosed before.machine
         → before.machine.state.next_file < 4294967294

@@ -12,11 +12,12 @@ mod laws;
 pub use ending::Ending;
 pub use laws::{
     a_core_answers_as_the_history_says, a_core_ingests_as_the_history_says,
-    a_store_answers_as_the_history_says, accepted_pushes_are_stored, an_ingest_finishes,
-    an_ingest_is_a_session, calls_answer_as_the_history_says, comes_to_an_end,
+    a_drill_compacts_to_its_end, a_store_answers_as_the_history_says, accepted_pushes_are_stored,
+    an_ingest_finishes, an_ingest_is_a_session, calls_answer_as_the_history_says, comes_to_an_end,
     compactions_come_to_an_end, compactions_have_their_causes, duties_make_an_ingest,
-    each_disk_fault_is_counted, flushes_have_their_causes, pushes_have_their_causes,
-    queries_tell_what_they_see, reclaims_have_their_causes, replies_tell_the_history,
-    sessions_keep_the_store, the_next_run_begins_as_listed, upkeep_stands_on_the_disk,
-    what_has_room_is_done, what_is_asked_in_between_is_a_session, what_is_stored_is_a_base,
+    each_disk_fault_is_counted, flushes_have_their_causes, places_are_kept,
+    pushes_have_their_causes, queries_tell_what_they_see, reclaims_have_their_causes,
+    replies_tell_the_history, sessions_keep_the_store, the_next_run_begins_as_listed,
+    upkeep_stands_on_the_disk, what_has_room_is_done, what_is_asked_in_between_is_a_session,
+    what_is_stored_is_a_base,
 };

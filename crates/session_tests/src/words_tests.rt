@@ -17,13 +17,14 @@ fn told(alloc: Global, words: &[String]) -> Result<String, AllocError> {
     match read_words(alloc, words) {
         Ok(Asked::Session) => String::from_str(alloc, "session"),
         Ok(Asked::Ingest) => String::from_str(alloc, "ingest"),
+        Ok(Asked::Drill { seed, traces }) => format!(in alloc; "drill:{seed}:{traces}"),
         Ok(Asked::Alone { line }) => format!(in alloc; "line:{line}"),
         Err(WordsError::Refused) => String::from_str(alloc, "refused"),
         Err(WordsError::Memory) => String::from_str(alloc, "memory"),
     }
 }
 
-static ROWS: [(&[&str], &str); 41] = [
+static ROWS: [(&[&str], &str); 52] = [
     (&[], "refused"),
     (&["session"], "session"),
     (&["session", "--"], "session"),
@@ -80,7 +81,24 @@ static ROWS: [(&[&str], &str); 41] = [
     (&["search", "--spss", "-", "-"], "line:search spss=- -"),
     (&["sessions"], "refused"),
     (&["serve", "--clients", "17"], "refused"),
+    (&["drill"], "refused"),
+    (&["drill", "--seed", "7"], "refused"),
     (&["drill", "--seed", "x", "--traces", "1"], "refused"),
+    (&["drill", "--seed", "07", "--traces", "1"], "refused"),
+    (&["drill", "--seed", "+7", "--traces", "1"], "refused"),
+    (&["drill", "--seed", "7", "--traces", "0"], "refused"),
+    (&["drill", "--seed", "7", "--traces", "100001"], "refused"),
+    (
+        &["drill", "--seed", "18446744073709551616", "--traces", "1"],
+        "refused",
+    ),
+    (&["drill", "--seed", "7", "--traces", "200"], "drill:7:200"),
+    (&["drill", "--traces=100000", "--seed=0"], "drill:0:100000"),
+    (
+        &["drill", "--seed", "18446744073709551615", "--traces", "1"],
+        "drill:18446744073709551615:1",
+    ),
+    (&["drill", "x", "--seed", "7", "--traces", "1"], "refused"),
     (&[""], "refused"),
 ];
 

@@ -41,7 +41,7 @@ const PUSH_WORD: u64 = 5;
 /// One space stands between the parts. A line that is none of these is refused at the first byte of the first part that
 /// can't stand there, and at its length where a part is missing. A line that isn't UTF-8 is refused at its first byte,
 /// unless its first part is `push`: then its JSON is none. A line of more than 16,777,216 bytes is too long.
-/// `Memory` comes wherever memory is wanted and not given.
+/// `Memory` comes wherever an allocation is refused.
 #[tactic(auto, unfolding(crate::specs::Requests::line_of))]
 pub fn read_request<P: PatternMaker>(
     alloc: Global,
@@ -78,7 +78,7 @@ pub fn is_reopen(line: &[u8]) -> bool
 
 /// What a line of a source asks whose lines are pushed, read at this moment, in nanoseconds: what the request `push`,
 /// one space and the line asks, or why that is refused. A line of more than 16,777,216 bytes, these alone counted, is
-/// too long. `Memory` comes wherever memory is wanted and not given.
+/// too long. `Memory` comes wherever an allocation is refused.
 pub fn read_push(alloc: Global, line: &[u8], moment: u64) -> Result<Request, Refusal>
     ensures asked { AsksPush moment line.now result }
     ensures few { IfOk result (λ request. HasFewSpans request) }

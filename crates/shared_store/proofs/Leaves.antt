@@ -35,7 +35,7 @@ both_left a b event reply l r = record {
       (λ (h : Contains b hold). r.writes_none number file bytes is hold h) (Contains-append_cases a b hold c);
 }
 
--- all of a list, and of what is behind its first
+-- all of a list, and of what is after its first
 pub first_left : (held : List Hold) (e : Entry) (es : List Entry) → AllLeave held (e ∷ es) → Leaves held e.event e.reply
 first_left held e es left = left e (0, omega arith, refl)
 

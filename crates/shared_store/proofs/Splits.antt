@@ -36,7 +36,7 @@ module _ {C : Type 0} (m : Meaning C) (key : C) where
   abbrev K : Type 0
   K = Known C
 
-  -- of views of which one changes, and behind which another comes
+  -- of views of which one changes, and after which another comes
   more : (P : ℕ → K → Type 0) (views : List K) (id : ℕ) (l r : K) → P id l → ((i : ℕ) → P i r) → ((i : ℕ) (v : K) → i ≢ id → get_elem? views i ≡ some v → P i v)
       → (i : ℕ) (v : K) → get_elem? (set views id l ++ r ∷ []) i ≡ some v → P i v
   more P views id l r mine new others i v e = ⊎_elim (λ (old : get_elem? (set views id l) i ≡ some v). changed m key P views id l mine others i v old)

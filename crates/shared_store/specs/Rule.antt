@@ -166,7 +166,7 @@ pub record IsKnown {C : Type 0} (m : Meaning C) (from : View) (event : Event) (r
   pub history : view.history ≡ history_from from.history entries
   pub told : TellsLength event reply (history_from from.history earlier)
 
--- One more call was made: it stands behind all that the seat had seen and what came between, in which there is none of its own.
+-- One more call was made: it stands after all that the seat had seen and what came between, in which there is none of its own.
 -- `key` is the port as it was when it was first shared, `before` and `core` as it was before and after the call.
 pub record IsAppended {C : Type 0} (m : Meaning C) (key : C) (event : Event) (reply : Reply) (before core : C) (v w : Known C) : Type 0 where
   pub between : List Entry

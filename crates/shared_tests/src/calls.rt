@@ -108,7 +108,7 @@ fn ten_each() -> Plans {
 }
 
 // Which call fails, and how many pushes are in what was synced, in what is held, and in what a crash leaves with ones or zeros. A push
-// makes four calls: it writes its record behind a closed gate, syncs, opens the gate and syncs. The eleventh push fails in its first or its
+// makes four calls: it writes its record after a closed gate, syncs, opens the gate and syncs. The eleventh push fails in its first or its
 // last one, whichever seat makes it. Once its gate is open a crash may leave it or not.
 static FAILURES: [(u64, [u64; 4]); 2] = [(41, [10, 10, 10, 10]), (44, [10, 11, 11, 10])];
 

@@ -118,7 +118,7 @@ pub(crate) fn all_show(firsts: &Firsts, log: &Log) -> bool {
     right
 }
 
-// Whether each look of a seat stands between the seat's pushes before and behind it.
+// Whether each look of a seat stands between the seat's pushes before and after it.
 pub(crate) fn goes_on(log: &Log) -> bool {
     let mut right = true;
     let mut least = 0;

@@ -96,7 +96,7 @@ pub(crate) const EVEN: Batches = Batches::Mixed { odd: false };
 
 pub(crate) const ODD: Batches = Batches::Mixed { odd: true };
 
-// The name of the span at a position of the batch that is pushed behind so many others; none behind its last one. Of its own it has the
+// The name of the span at a position of the batch that is pushed after so many others; none after its last one. Of its own it has the
 // names from 64 on.
 pub(crate) fn name_at(batches: Batches, before: u16, position: u32) -> Option<u32> {
     let Batches::Mixed { odd } = batches else {
@@ -110,7 +110,7 @@ pub(crate) fn name_at(batches: Batches, before: u16, position: u32) -> Option<u3
     }
 }
 
-// The batch that is pushed behind so many others.
+// The batch that is pushed after so many others.
 pub(crate) fn batch(alloc: Global, batches: Batches, before: u16) -> Result<Batch, Memory> {
     let mut spans = Vec::new(alloc);
     for position in 0..2 {

@@ -106,7 +106,7 @@ impl Log {
 
 const SECOND: u64 = 1_000_000_000;
 
-// The moment of the push behind so many others.
+// The moment of the push after so many others.
 fn moment(before: u16) -> u64 {
     u64::from(before) * SECOND
 }

@@ -7,7 +7,7 @@ use Rattle.disk_model.specs.Counts.{Plain, IsOneCall}
 use Rattle.disk_model.specs.Crash.{OnlyBytes, Within, Reached, Elapses, LeavesOnly, Run}
 use Rattle.disk_model.specs.declared.disk.Device.{Ghosts}
 use Rattle.disk_model.proofs.Moments.{joined, widened, still}
-use Rattle.disk_model.proofs.CallRuns.{plain_calls}
+use Rattle.disk_model.proofs.CallRuns.{passes_once, plain_calls}
 use Rattle.block_list.specs.Body.{successor}
 use Rattle.block_list.specs.Commit.{CanLay, ImageHoldsEither, IsListText, WritesSlot, slot_of}
 use Rattle.block_list.specs.ListText.{ListText}
@@ -42,7 +42,7 @@ synced_by {D} g old mid file result fine counted same crash time lasting = recor
   lasting = lasting;
   result = result;
   fine = fine;
-  made = plain_calls g old mid result 0 time.later counted;
+  made = plain_calls g old mid result 0 (passes_once g old mid time) counted;
 }
 
 -- what the writing of the next list tells, done or not

@@ -2,10 +2,10 @@
 use Rattle.std.proofs.Common.{◌≡◌, ◌≢◌, ℕ, ◌+◌, ◌^◌, ◌<◌, ◌≤◌, Result, Ok, Err, IsOk, IsErr, refl, sym, ◌∙◌, ap, subst, arith}
 use Rattle.span_types.specs.Faults.{Rose}
 use Rattle.span_types.specs.declared.errors.Failed.{Failed}
-use Rattle.disk_model.specs.Calls.{Counts, Calls, CountsFault}
+use Rattle.disk_model.specs.Calls.{Counts, Calls, CountsFault, Passes}
 use Rattle.disk_model.specs.Counts.{RoseBy, Plain}
 use Rattle.disk_model.specs.declared.disk.Device.{Ghosts}
-use Rattle.disk_model.proofs.CallRuns.{OneCall, calls_counts, counts_as, counts_then, plain_calls, raised_rose}
+use Rattle.disk_model.proofs.CallRuns.{OneCall, calls_counts, counts_as, counts_then, passes_none, plain_calls, raised_rose}
 use Rattle.store_model.specs.Event.{Reply}
 use Rattle.store_model.specs.Event.Reply.{Refused}
 use Rattle.store_model.specs.Event.Refusal.{Fault}
@@ -23,7 +23,7 @@ module _ {D : Type 0} (g : Ghosts D) where
   -- it made no call
   pub counted_none : (end : ℕ) (reply : Reply) (disk : D) → reply ≢ Refused Fault → Counted g end reply disk disk
   counted_none end reply disk no_fault = record {
-    time = omega arith;
+    time = passes_none g disk;
     telling = refl;
     later = omega arith;
     quiet = λ _. refl;
@@ -142,7 +142,7 @@ FineCalls g count end old new = Calls g count end old new (ok_in (Unit {0}) Fail
 
 pub no_calls : {D : Type 0} (g : Ghosts D) (end : ℕ) (disk : D) → FineCalls g 0 end disk disk
 no_calls g end disk = record {
-  time = omega arith;
+  time = passes_none g disk;
   telling = refl;
   later = omega arith;
   quiet = λ _. refl;
@@ -201,7 +201,7 @@ well_answer g count end short fault old new x result other run = record {
 -- no call
 pub still_answer : {D T E : Type 0} (g : Ghosts D) (fault : E) (disk : D) (result : Result T E) → (result ≡ Err fault → ⊥) → CountsFault g 0 fault disk disk result
 still_answer g fault disk result other = record {
-  time = omega arith;
+  time = passes_none g disk;
   telling = refl;
   later = omega arith;
   quiet = λ _. refl;
@@ -231,8 +231,8 @@ passed_answer {S = S} {T = T} {E = E} g fault old new r own given is same run =
     subst (λ (x : Result T E). CountsFault g 0 fault old new x) (sym (is ∙ ap (λ (e : E). err_in T E e) same)) (handed_answer {S = S} {T = T} g fault old new given run)
 
 -- a sync, a cut or a length
-pub plain_fine : {D T : Type 0} (g : Ghosts D) (old new : D) (x : T) → g.moment old ≤ g.moment new → OneCall g Plain old new (ok_in T Failed x) → Counts g 0 (Unit {0}) ⊥ old new
+pub plain_fine : {D T : Type 0} (g : Ghosts D) (old new : D) (x : T) → Passes g old new → OneCall g Plain old new (ok_in T Failed x) → Counts g 0 (Unit {0}) ⊥ old new
 plain_fine {T = T} g old new x time one = fine_calls g 1 0 old new x (plain_calls g old new (ok_in T Failed x) 0 time one)
 
-pub plain_fault : {D T U E : Type 0} (g : Ghosts D) (fault : E) (old new : D) (why : Failed) → g.moment old ≤ g.moment new → OneCall g Plain old new (err_in U Failed why) → CountsFault g 0 fault old new (err_in T E fault)
+pub plain_fault : {D T U E : Type 0} (g : Ghosts D) (fault : E) (old new : D) (why : Failed) → Passes g old new → OneCall g Plain old new (err_in U Failed why) → CountsFault g 0 fault old new (err_in T E fault)
 plain_fault {U = U} g fault old new why time one = fault_answer g 1 0 (omega arith) fault old new why (plain_calls g old new (err_in U Failed why) 0 time one)

@@ -51,7 +51,7 @@ tail_order : (gone rest : List SegmentRef) → IsNonDecreasing (map number_in (g
 tail_order [] rest order = order
 tail_order (x ∷ gone) rest order = tail_order gone rest (λ i j d le inside. order (suc i) (suc j) d (omega (arith, le)) (omega (arith, inside)))
 
--- ---- which segments stay: those from one on, and a last one behind them
+-- ---- which segments stay: those from one on, and a last one after them
 
 abbrev pub first_in : List SegmentRef → SegmentRef → ℕ
 first_in [] last = last.first
@@ -197,7 +197,7 @@ to_last body kept last is =
     subst (λ (k : ℕ). get_or (map number_in body.segments) k 0 ≡ last.first) (sym size)
     (subst (λ (l : List ℕ). get_or l (length (map number_in kept)) 0 ≡ last.first) (sym (ap (map number_in) is ∙ map-append number_in kept (last ∷ []))) (get_or-append_seam (map number_in kept) last.first [] 0))
 
--- the numbers of a list's segments, and one behind them that is not below the last
+-- the numbers of a list's segments, and one after them that is not below the last
 pub order_with : (body : ListBody) (front : List SegmentRef) (tail last : SegmentRef) → MeetsRules body → body.segments ≡ front ++ tail ∷ [] → tail.first ≤ last.first → IsNonDecreasing (map number_in (body.segments ++ last ∷ []))
 order_with body front tail last rules is le =
     subst (λ (l : List ℕ). IsNonDecreasing l) (sym (map-append number_in body.segments (last ∷ [])))
@@ -210,7 +210,7 @@ order_with body front tail last rules is le =
         subst (λ (k : ℕ). get_or (map number_in body.segments) k d ≡ tail.first) (sym size)
         (subst (λ (l : List ℕ). get_or l (length (map number_in front)) d ≡ tail.first) (sym (ap (map number_in) is ∙ map-append number_in front (tail ∷ []))) (get_or-append_seam (map number_in front) tail.first [] d))
 
--- What a flush's commit makes of a list that meets the rules meets them: the segments from one on stay, with the new one behind
+-- What a flush's commit makes of a list that meets the rules meets them: the segments from one on stay, with the new one after
 -- them, and the floor lies between the first number and that of the new one.
 pub next_rules : (old new : ListBody) (u : State) (floor : ℕ) (last : SegmentRef) (block : BlockRef) (front : List SegmentRef) (tail : SegmentRef) → MeetsRules old → StateIsSound u → NamesState new u
     → (p : Parting floor old.segments last) → new.segments ≡ p.kept ++ last ∷ [] → new.blocks ≡ old.blocks ++ block ∷ [] → new.floor ≡ floor → new.generation < 256

@@ -49,7 +49,7 @@ pub record Stepped {D : Type 0} (g : Ghosts D) (old : Core D) (event : Event) (r
   pub ended : (unsure_of old.state ≡ None) ⊎ (machine.history ≡ m.history)
 
 -- Where the last byte that an event writes is to end, as far as that may be 2^63 or more; `counts` says no more than that there is
--- no far write if it isn't. A push writes a record behind the gate. A piece goes where its job says, of which `write_piece` speaks.
+-- no far write if it isn't. A push writes a record after the gate. A piece goes where its job says, of which `write_piece` speaks.
 -- Lists are short, so for them it is 0.
 abbrev pub end_of : CoreState → Event → ℕ
 end_of core (Push spans moment) =
@@ -78,7 +78,7 @@ pub record Did {D : Type 0} (g : Ghosts D) (old : Core D) (event : Event) (reply
   -- the file of a job that begins is empty, and so it is in each image that a crash may leave then
   pub empty : IsTrue (g.tells old.disk) → (file : ℕ) → is_among file (own_files reply) ≡ true
       → IsEmptied (g.held new.disk) (g.may_leave new.disk) file
-  -- a page is that of its file, and a look shows the history of each machine that the core stands for behind it
+  -- a page is that of its file, and a look shows the history of each machine that the core stands for after it
   pub page : IsTrue (g.tells old.disk) → IsPageRead event reply (λ file. bytes_of (g.held old.disk) file)
   pub look : IsTrue (g.tells new.disk) → (m : Machine) → CoreStandsFor g new m
       → IsLookTaken reply (λ file. bytes_of (g.held new.disk) file) m.history

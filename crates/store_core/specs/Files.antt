@@ -11,7 +11,7 @@ SameBelow limit old new = (file : ℕ) → file < limit → bytes_of new file �
 abbrev pub IsEmptied : Image → (Image → Type 0) → ℕ → Type 0
 IsEmptied held may_leave file = (bytes_of held file ≡ []) × OnlyBytes file [] may_leave
 
--- what a read of a file from there on leaves in a buffer: its bytes up to the end of the file or of the buffer, and what stood behind
+-- what a read of a file from there on leaves in a buffer: its bytes up to the end of the file or of the buffer, and what stood after
 -- them there
 abbrev pub read_over : List ℕ → ℕ → List ℕ → List ℕ
 read_over bytes at buf =

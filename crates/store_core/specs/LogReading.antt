@@ -31,7 +31,7 @@ pub record LogRead (told : Type 0) (image : Image) (segments : List SegmentRef) 
   pub current : told → SegmentHolds tail.first mine tail.gate (bytes_of image tail.file)
 
 -- A segment's bytes break at this place: the grammar doesn't allow them, or their last gate stands there and the records in front of
--- it don't lead to the number of the segment behind it.
+-- it don't lead to the number of the segment after it.
 pub data SegmentBreaks (ref : SegmentRef) (behind : List SegmentRef) (bytes : List ℕ) (at : ℕ) : Type 0 where
   malformed : segment_at ref.first bytes ≡ Err at → SegmentBreaks ref behind bytes at
   astray : (mine : List (List Span)) (next : SegmentRef) (rest : List SegmentRef) → SegmentHolds ref.first mine at bytes

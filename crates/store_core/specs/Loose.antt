@@ -12,7 +12,7 @@ use Rattle.block_list.specs.declared.body.ListBody.{ListBody}
 abbrev pub next_without : ListBody → ListBody
 next_without body = record body { generation = successor body.generation; loose = [] }
 
--- a list that names no loose file stays, and behind one that does comes the next one
+-- a list that names no loose file stays, and after one that does comes the next one
 abbrev pub list_after : List ℕ → ListBody → ListBody
 list_after [] body = body
 list_after (file ∷ files) body = next_without body

@@ -1,7 +1,7 @@
 -- Which numbers of pins are taken, and which files the pins name.
 use Rattle.std.specs.Prelude.{ℕ, Bool, List, [], Option, None, Some, false, true, slice_index_or}
 
--- the files that a pin names, by its number; numbers that no pin has, those behind the end of the list too, have none
+-- the files that a pin names, by its number; numbers that no pin has, those after the end of the list too, have none
 abbrev pub pin_at : ℕ → List (Option (List ℕ)) → Option (List ℕ)
 pin_at number pins = slice_index_or pins number None
 

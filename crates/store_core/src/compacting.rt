@@ -160,7 +160,7 @@ impl CoreState {
     }
 
     // The information of the block at a position, shared with this one. Each listed block has its information, so that a position
-    // behind them isn't chosen; it is refused for memory.
+    // after them isn't chosen; it is refused for memory.
     fn info_at(&self, at: usize) -> Result<SharedInfo, Memory>
         ensures { IfOk result (λ info. (at < length self.now.infos.items)
             × ((other : InfoParts) → slice_index_or self.now.infos.items at other ≡ info)) }

@@ -130,7 +130,7 @@ impl<D: Device> Core<D> {
         }
     }
 
-    /// Writes bytes behind those that were written to a job's file, and counts them; a refusal counts none. It makes one device
+    /// Writes bytes after those that were written to a job's file, and counts them; a refusal counts none. It makes one device
     /// call, and takes no memory. After `Fault` the store is read-only, and nothing is known of the file's length.
     pub fn write_piece(&mut self, out: &mut JobFile, bytes: &[u8]) -> Result<(), WriteError>
         requires job { (m : Machine) × CoreShows D.Device.own self.now m

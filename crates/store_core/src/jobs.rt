@@ -190,7 +190,7 @@ impl Jobs {
         }
     }
 
-    /// Takes the room of the open compaction's commit, and answers it behind the compaction's file and level. The compaction stays
+    /// Takes the room of the open compaction's commit, and answers it after the compaction's file and level. The compaction stays
     /// open.
     pub(crate) fn take_compact_room(&mut self) -> (u32, u8, CommitRoom)
         requires open { IsSome self.now.compaction }
@@ -240,7 +240,7 @@ impl Jobs {
         }
     }
 
-    /// Takes the room of the open flush's commit, and answers it behind the flush's files. The flush stays open.
+    /// Takes the room of the open flush's commit, and answers it after the flush's files. The flush stays open.
     pub(crate) fn take_room(&mut self) -> (FlushFiles, CommitRoom)
         requires open { IsSome self.now.flush }
         requires room { IfSome self.now.flush (λ known. IsSome known.room) }

@@ -18,7 +18,7 @@ use span_types::Failed;
 /// File numbers are given out one after another. Since the list was committed each flush got two of them, the second for a
 /// segment, which isn't empty, and each compaction one, whether the job is open or was given up. So what they wrote is found,
 /// unless no list was committed since and eight of these files in a row are empty: after seven compactions that were given up
-/// before they wrote a byte, or a `reclaim` that was stopped after it emptied what jobs had given up. What stands behind these
+/// before they wrote a byte, or a `reclaim` that was stopped after it emptied what jobs had given up. What stands after these
 /// files then stays there: its room is lost, and nothing else.
 const EMPTY_IN_A_ROW: u32 = 8;
 

@@ -61,7 +61,7 @@ pub fn read_log<D: Device>(
     Ok((last, batches))
 }
 
-// Makes what a segment holds last, reads it, and puts its batches behind those that were read before.
+// Makes what a segment holds last, reads it, and puts its batches after those that were read before.
 fn add_segment<D: Device>(
     alloc: Global,
     disk: &mut D,

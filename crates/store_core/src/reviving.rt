@@ -8,7 +8,7 @@ use head_log::NumberedBatch;
 use live_traces::Live;
 use span_types::Memory;
 
-/// Puts the batches whose numbers are at least the floor behind the live rows, with this moment.
+/// Puts the batches whose numbers are at least the floor after the live rows, with this moment.
 pub(crate) fn revive(
     live: &mut Live,
     batches: Vec<NumberedBatch>,

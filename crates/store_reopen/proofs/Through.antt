@@ -57,6 +57,7 @@ amid_now least h (Some entry) pending image low stands = elim stands [
       inr (
         p,
         Contains-push pending p,
+        low,
         omega arith,
         subst (λ (x : History). ImageStandsFor image (grown x (entry ∷ []))) (sym (now_is h)) other,
       )
@@ -102,8 +103,9 @@ amid_later least h h' pending later image follows more stood = elim stood [
       inr (
         one.0,
         more one.0 one.1,
-        (let long = follows.longer in let le = one.2 in omega (arith, long, le)),
-        subst (λ (x : History). ImageStandsFor image (grown x (one.0.entry ∷ []))) (sym (follows.past one.0.length one.2)) one.3,
+        one.2,
+        (let long = follows.longer in let le = one.3 in omega (arith, long, le)),
+        subst (λ (x : History). ImageStandsFor image (grown x (one.0.entry ∷ []))) (sym (follows.past one.0.length one.3)) one.4,
       )
 ]
 

@@ -40,12 +40,12 @@ abbrev pub pending_now : History → Option Entry → List Pending
 pending_now h None = []
 pending_now h (Some entry) = record { length = count_of h; entry = entry } ∷ []
 
--- The image stands for the history as it was at some length from that one on, or at the length at which a call for an entry
+-- The image stands for the history as it was at some length from that one on, or at such a length at which a call for an entry
 -- answered a fault, and then for that entry too.
 abbrev pub StoodAmid : ℕ → History → List Pending → Image → Type 0
 StoodAmid least h pending image =
     ((n : ℕ) × (least ≤ n) × (n ≤ count_of h) × ImageStandsFor image (up_to n h))
-    ⊎ ((p : Pending) × Contains pending p × (p.length ≤ count_of h) × ImageStandsFor image (grown (up_to p.length h) (p.entry ∷ [])))
+    ⊎ ((p : Pending) × Contains pending p × (least ≤ p.length) × (p.length ≤ count_of h) × ImageStandsFor image (grown (up_to p.length h) (p.entry ∷ [])))
 
 -- Whenever a crash came since the disk was as it was at the start, the image that it left stands so for the history; `pending` are
 -- the entries that weren't sure before earlier reopenings.

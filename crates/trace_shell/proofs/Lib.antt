@@ -6,3 +6,4 @@ pub mod ArgumentLemmas
 pub mod IngestLemmas
 pub mod IngestReads
 pub mod IngestEnds
+pub mod DrillLemmas

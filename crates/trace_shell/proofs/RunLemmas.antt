@@ -1,9 +1,9 @@
 -- What was done by a run, from what its command came to.
 use Rattle.std.proofs.Common.{Bool, ◌≡◌, ◌≢◌, ◌⊎◌, ◌∙◌, inl, inr, ℕ, List, [], ◌∷◌, Option, Some, None, true, false, IsTrue, arith, if◌then◌else◌, refl, subst, sym}
 use Rattle.std.specs.Prelude.{IfSome}
-use Rattle.clap.specs.Words.{Kinds, fault_of}
-use Rattle.command_words.specs.Commands.{Alone, Command, Ingest as ingest, Session as session, Spells}
-use Rattle.command_words.specs.Table.{words_app}
+use Rattle.clap.specs.Words.{Kinds}
+use Rattle.command_words.specs.Commands.{Alone, Command, Drill as drill, Ingest as ingest, Session as session, Spells}
+use Rattle.command_words.specs.Numbers.{word_faults}
 use Rattle.command_words.proofs.Spelled.{spelled_clean, spelled_one}
 use Rattle.disk_model.specs.Counts.{Raised}
 use Rattle.disk_model.specs.Images.{Image}
@@ -68,7 +68,7 @@ past_is_no_fault e past is = subst IsPastOpening is past
 -- ---- the words
 
 -- Words that ask something aren't told to be faulty.
-fits_asked : (words : List (List ℕ)) (c : Command) (e : Ending) → Spells words c → e ≢ BadWords → FitsWords (fault_of words_app words) e
+fits_asked : (words : List (List ℕ)) (c : Command) (e : Ending) → Spells words c → e ≢ BadWords → FitsWords (word_faults words) e
 fits_asked words c e s not = subst (λ (k : Kinds). FitsWords k e) (sym (spelled_clean words c s)) not
 
 -- What is done by the command that the words ask is done by any that they ask.
@@ -83,16 +83,6 @@ is_run told words c o old new s done = record {
   session = done.session;
   cause = done.cause;
 }
-
-pub session_is_not_alone : (line : List ℕ) → session ≡ Alone line → ⊥
-session_is_not_alone line e = cc
-
-pub ingest_is_not_alone : (line : List ℕ) → ingest ≡ Alone line → ⊥
-ingest_is_not_alone line e = cc
-
--- Words that ask for a session ask for no line alone.
-pub no_line_of_session : (words : List (List ℕ)) (line : List ℕ) → Spells words session → Spells words (Alone line) → ⊥
-no_line_of_session words line s t = session_is_not_alone line (spelled_one words session (Alone line) s t)
 
 -- ---- in a store that was opened
 
@@ -122,6 +112,7 @@ in_store sure ingest o old new (items, acts_are, none, came) =
       no_refused = none;
       ends = w.ends;
     }))
+in_store sure (drill seed traces) o old new (items, acts_are, left, came) = record { items = items; acts_are = acts_are; left = left; came = came }
 in_store sure (Alone line) o old new (item, reply, acts, replies, own, asked, clock, ends) = (
   own,
   if_some old.taken (λ before. HasAnswered line before o old new) (λ before taken. record {
@@ -140,6 +131,7 @@ pub only_asks : (sure : Bool) (c : Command) (first : At) (last : Place) (old_lef
     → CameTo sure c first last old_left old_taken told left taken to_tell e acts replies blamed → OnlyAsks c acts
 only_asks sure session first last old_left old_taken told left taken to_tell e acts replies blamed came = tt
 only_asks sure ingest first last old_left old_taken told left taken to_tell e acts replies blamed came = (came.0, came.1)
+only_asks sure (drill seed traces) first last old_left old_taken told left taken to_tell e acts replies blamed came = (came.0, came.1)
 only_asks sure (Alone line) first last old_left old_taken told left taken to_tell e acts replies blamed came = (came.0 ∷ [], came.2)
 
 -- ---- in none
@@ -156,6 +148,7 @@ unopened e = record { ending = e; opened = false; moment = 0; first = nowhere; a
 none_asked : (c : Command) → OnlyAsks c []
 none_asked session = tt
 none_asked ingest = ([], refl)
+none_asked (drill seed traces) = ([], refl)
 none_asked (Alone line) = ([], refl)
 
 no_truth : IsTrue false → ⊥
@@ -189,7 +182,7 @@ untouched_recovers g only_now disk e = unopened_recovers g disk disk e (λ other
 -- Memory ran out for the words.
 pub starved_runs : (told : Bool) (words : List (List ℕ)) (old : Edges) → IsRunOf told words (unopened Starved) old old
 starved_runs told words old = record {
-  words_fit = fits (fault_of words_app words);
+  words_fit = fits (word_faults words);
   does = λ c s. inr (refl, record { no_acts = refl; no_replies = refl; no_refused = refl; left = refl; clock = inr refl; ends = refl; quiet = λ not. refl });
   asks = λ c s. none_asked c;
   session = (refl, refl);
@@ -201,9 +194,9 @@ starved_runs told words old = record {
     fits (k ∷ ks) = inr refl
 
 -- The words were refused.
-pub refused_runs : (told : Bool) (words : List (List ℕ)) (old : Edges) → fault_of words_app words ≢ [] → IsRunOf told words (unopened BadWords) old old
+pub refused_runs : (told : Bool) (words : List (List ℕ)) (old : Edges) → word_faults words ≢ [] → IsRunOf told words (unopened BadWords) old old
 refused_runs told words old faulty = record {
-  words_fit = fits (fault_of words_app words) faulty;
+  words_fit = fits (word_faults words) faulty;
   does = λ c s. absurd (faulty (spelled_clean words c s));
   asks = λ c s. none_asked c;
   session = (refl, refl);

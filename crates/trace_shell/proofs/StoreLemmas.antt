@@ -1,7 +1,7 @@
 -- What a run came to in a store that was opened, and what it left of it.
 use Rattle.std.proofs.Common.{Bool, ◌≡◌, inl, inr, ⊎_elim, ℕ, ◌≤◌, List, [], ◌∷◌, map, Option, Some, None, Result, Ok, Err, true, false, IsTrue, refl, sym, ◌∙◌, ap, subst}
 use Rattle.std.specs.Prelude.{IfSome}
-use Rattle.command_words.specs.Commands.{Alone, Command, Ingest as ingest, Session as session}
+use Rattle.command_words.specs.Commands.{Alone, Command, Drill as drill, Ingest as ingest, Session as session}
 use Rattle.disk_model.specs.Crash.{Reached}
 use Rattle.disk_model.specs.Images.{Image}
 use Rattle.io_edges.specs.Lines.{lines}
@@ -76,6 +76,9 @@ pub done_over : {D : Type 0} (g : Ghosts D) (c : Command) (core : Core D) (store
     (replies : List Reply) (blamed : List (List ℕ)) → CameOver c g core store old_left old_taken told left taken to_tell e acts replies blamed → AreDoneOver g (Open core) acts replies store
 done_over g session core store old_left old_taken told left taken to_tell e acts replies blamed came = came.0
 done_over {D} g ingest core store old_left old_taken told left taken to_tell e acts replies blamed (later, is, items, acts_are, over, none, by) =
+    subst (λ (x : Store D). AreDoneOver g (Open core) acts replies x) (sym is)
+    (subst (λ (as_done : List Act). AreDoneOver g (Open core) as_done replies (Open later)) (sym acts_are) (asks_over g items replies core later over.each))
+done_over {D} g (drill seed traces) core store old_left old_taken told left taken to_tell e acts replies blamed (later, is, items, acts_are, over, same, came) =
     subst (λ (x : Store D). AreDoneOver g (Open core) acts replies x) (sym is)
     (subst (λ (as_done : List Act). AreDoneOver g (Open core) as_done replies (Open later)) (sym acts_are) (asks_over g items replies core later over.each))
 done_over {D} g (Alone line) core store old_left old_taken told left taken to_tell e acts replies blamed (later, is, item, reply, acts_are, replies_are, over, own, asks, clock, ends) =
@@ -170,6 +173,22 @@ module _ {D : Type 0} (g : Ghosts D) (is_with : Core D → Machine → Type 0) (
         );
       }
 
+  pub asked_drill : (seed traces : ℕ) (old_left old_taken told left taken to_tell : Option (List ℕ)) (e : Ending) (acts : List Act) (replies : List Reply) (blamed : List (List ℕ))
+      → CameOver (drill seed traces) g core store old_left old_taken told left taken to_tell e acts replies blamed
+      → CameAsked g is_with sure (drill seed traces) core store m old_left old_taken told left taken to_tell e acts replies blamed
+  asked_drill seed traces old_left old_taken told left taken to_tell e acts replies blamed (later, is, items, acts_are, over, same_left, came) =
+      let run = sessions items replies core later m stands over.each in record {
+        later = later;
+        is = is;
+        items = items;
+        acts_are = acts_are;
+        over = over;
+        machine = run.0;
+        stands = run.1;
+        done = as_acts acts items replies (asked_place g later run.0 items replies) acts_are (session_asks sure items replies (at_core g core m) (at_core g later run.0) true None [] run.2);
+        came = (items, acts_are, same_left, came);
+      }
+
   pub asked_alone : (line : List ℕ) (old_left old_taken told left taken to_tell : Option (List ℕ)) (e : Ending) (acts : List Act) (replies : List Reply) (blamed : List (List ℕ))
       → CameOver (Alone line) g core store old_left old_taken told left taken to_tell e acts replies blamed
       → CameAsked g is_with sure (Alone line) core store m old_left old_taken told left taken to_tell e acts replies blamed
@@ -209,6 +228,8 @@ module _ {D : Type 0} (g : Ghosts D) (core : Core D) (store : Store D) (m : Mach
       (all.0, all.1, all.2, came.1)
   came_shown ingest shows came =
       of_shown ingest (asked_ingest g (CoreShows g) false (shown_means g) (shown_ingests g) core store m shows old_left old_taken told left taken to_tell e acts replies blamed came)
+  came_shown (drill seed traces) shows came =
+      of_shown (drill seed traces) (asked_drill g (CoreShows g) false (shown_means g) (shown_ingests g) core store m shows seed traces old_left old_taken told left taken to_tell e acts replies blamed came)
   came_shown (Alone line) shows came =
       of_shown (Alone line) (asked_alone g (CoreShows g) false (shown_means g) (shown_ingests g) core store m shows line old_left old_taken told left taken to_tell e acts replies blamed came)
 
@@ -258,6 +279,9 @@ module _ {D : Type 0} (g : Ghosts D) (core : Core D) (store : Store D) (m : Mach
     came_kept ingest writes stands came =
         of_kept ingest stands.0 writes
         (asked_ingest g (StandsThrough g start least []) true (through_means g start least []) (through_ingests g start least []) core store m stands old_left old_taken told left taken to_tell e acts replies blamed came)
+    came_kept (drill seed traces) writes stands came =
+        of_kept (drill seed traces) stands.0 writes
+        (asked_drill g (StandsThrough g start least []) true (through_means g start least []) (through_ingests g start least []) core store m stands seed traces old_left old_taken told left taken to_tell e acts replies blamed came)
     came_kept (Alone line) writes stands came =
         of_kept (Alone line) stands.0 writes
         (asked_alone g (StandsThrough g start least []) true (through_means g start least []) (through_ingests g start least []) core store m stands line old_left old_taken told left taken to_tell e acts replies blamed came)

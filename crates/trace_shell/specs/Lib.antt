@@ -1,4 +1,5 @@
 pub mod Turn
+pub mod Drilling
 pub mod Real
 pub mod Arguments
 pub mod Ingesting

@@ -6,7 +6,7 @@ use Rattle.std.specs.Io.KnownBytes.{Appends}
 use Rattle.io_edges.specs.Devices.{AppendsPrefix}
 use Rattle.io_edges.specs.Lines.{lines}
 use Rattle.io_edges.specs.Reader.{Reader, IsToRead, TakesBytes}
-use Rattle.command_words.specs.Commands.{Alone, Command, Ingest as ingest, Session as session}
+use Rattle.command_words.specs.Commands.{Alone, Command, Drill as drill, Ingest as ingest, Session as session}
 use Rattle.store_core.specs.declared.error.OpenError.{OpenError}
 use Rattle.store_core.specs.declared.error.OpenError.TheVariants as open_errors
 use Rattle.session_text.specs.declared.refusal.Refusal.TheVariants as refusal
@@ -29,6 +29,7 @@ use Rattle.session_meaning.specs.Done.{AreDone}
 use Rattle.session_meaning.specs.Over.{AreDoneOver}
 use Rattle.session_meaning.specs.Place.{Place, opened_at}
 use Rattle.session_meaning.specs.Asked.{AreAsked, AsksNext, after_lines, after_moment}
+use Rattle.session_meaning.specs.Drill.{CameThrough}
 use Rattle.session_meaning.specs.Duties.{Duty, Follows, IsLeft, duties}
 use Rattle.session_meaning.specs.Progress.{HasAnsweredOver, FollowsOver, Progress}
 use Rattle.session_meaning.specs.Runs.{Does, Edges, HasCause, NeedsNoSource, OnlyAsks, Outcome}
@@ -116,6 +117,10 @@ CameOver {D} ingest g start store old_left old_taken told left taken to_tell end
     × ((text before : List ℕ) → old_left ≡ Some text → old_taken ≡ Some before
     → CameByLines (λ todo rest. FollowsOver g todo told start items replies core rest to_tell) text before left taken
     ending replies)
+CameOver {D} (drill seed traces) g start store old_left old_taken told left taken to_tell ending acts replies blamed =
+    (core : Core D) × (store ≡ Open core) × (items : List Item) × (acts ≡ map Ask items)
+    × HasAnsweredOver (port_of g) start items replies core × (left ≡ old_left)
+    × CameThrough seed traces ending told items replies blamed to_tell old_taken taken
 CameOver {D} (Alone line) g start store old_left old_taken told left taken to_tell ending acts replies blamed =
     (core : Core D) × (store ≡ Open core) × (item : Item) × (reply : Reply) × (acts ≡ Ask item ∷ []) × (replies ≡ reply ∷ [])
     × HasAnsweredOver (port_of g) start (item ∷ []) (reply ∷ []) core × NeedsNoSource ending
@@ -133,6 +138,9 @@ CameTo sure ingest first last old_left old_taken told left taken to_tell ending 
     × ((text before : List ℕ) → old_left ≡ Some text → old_taken ≡ Some before
     → CameByLines (λ todo rest. Follows sure todo told first items replies last.store rest to_tell) text before left taken
     ending replies)
+CameTo sure (drill seed traces) first last old_left old_taken told left taken to_tell ending acts replies blamed =
+    (items : List Item) × (acts ≡ map Ask items) × (left ≡ old_left)
+    × CameThrough seed traces ending told items replies blamed to_tell old_taken taken
 CameTo sure (Alone line) first last old_left old_taken told left taken to_tell ending acts replies blamed =
     (item : Item) × (reply : Reply) × (acts ≡ Ask item ∷ []) × (replies ≡ reply ∷ []) × NeedsNoSource ending
     × AsksNext told line blamed item × (to_tell ≡ after_moment told)

@@ -1,9 +1,8 @@
 //! What the words of the command line say is done, on the store of a disk.
 
 ghost use Rattle.std.specs.Prelude.{true, false, ◌≡◌, ◌≢◌, List, Option, [], map, string_bytes, ℕ, IsTrue};
-ghost use Rattle.clap.specs.Words.{fault_of};
-ghost use Rattle.command_words.specs.Commands.{Alone, Spells, command_of};
-ghost use Rattle.command_words.specs.Table.{words_app};
+ghost use Rattle.command_words.specs.Commands.{Command, Spells, command_of};
+ghost use Rattle.command_words.specs.Numbers.{word_faults};
 ghost use Rattle.io_edges.specs.Lines.{taken_limit};
 ghost use Rattle.io_edges.specs.Reader.{TakesBytes};
 ghost use Rattle.span_types.specs.Faults.{Rose};
@@ -14,11 +13,12 @@ ghost use Rattle.store_model.specs.Holds.{Hold};
 ghost use Rattle.session_text.specs.declared.reply.Reply.{Reply};
 ghost use Rattle.session_meaning.specs.Act.{Act};
 ghost use Rattle.session_meaning.specs.declared.ending.Ending.TheVariants.{NotOpened, ReadFault, Spent, WriteFault};
-ghost use Rattle.session_meaning.specs.Runs.{IsPastOpening, IsRunOf, Outcome, edges};
-ghost use Rattle.session_meaning.specs.Stops.{Recovers};
+ghost use Rattle.session_meaning.specs.Runs.{IsPastOpening, IsRunOf, Outcome, TakesNothing, edges};
+ghost use Rattle.session_meaning.specs.Stops.{FindsBytes, Recovers};
 ghost use Rattle.traceql_types.specs.Makers.{RefusesOnly};
 ghost use Rattle.trace_shell.specs.Turn.{CameOver, HasDone, IsRefusedStore};
 
+use crate::drilling::drill;
 use crate::ingesting::ingest;
 use crate::session::{one_line, session};
 use command_words::{Asked, WordsError, read_words};
@@ -47,7 +47,8 @@ pub(crate) fn dispatch<S: Source, K: Sink, D: Device, C: Clock, P: PatternMaker,
         × RefusesOnly P.makes patterns.old patterns.new o.refused
         × IsRunOf false (map string_bytes words.now) o
         (edges S.left S.faults K.taken K.faults C.moments D.Device.own source.old sink.old clock.old disk)
-        (edges S.left S.faults K.taken K.faults C.moments D.Device.own source.new sink.new clock.new result.1) }
+        (edges S.left S.faults K.taken K.faults C.moments D.Device.own source.new sink.new clock.new result.1)
+        × FindsBytes D.Device.own disk result.1 o }
     ensures recovers { IsTrue (D.tells disk) → IsSoundImage (D.held disk)
         → (o : Outcome) × (o.ending ≡ result.0)
         × RefusesOnly P.makes patterns.old patterns.new o.refused
@@ -55,7 +56,7 @@ pub(crate) fn dispatch<S: Source, K: Sink, D: Device, C: Clock, P: PatternMaker,
         (edges S.left S.faults K.taken K.faults C.moments D.Device.own source.old sink.old clock.old disk)
         (edges S.left S.faults K.taken K.faults C.moments D.Device.own source.new sink.new clock.new result.1)
         × Recovers D.Device.own disk result.1 o }
-    ensures nothing_done { fault_of words_app (map string_bytes words.now) ≢ []
+    ensures nothing_done { word_faults (map string_bytes words.now) ≢ []
         → (source.new ≡ source.old) × (sink.new ≡ sink.old) × (result.1 ≡ disk)
         × (clock.new ≡ clock.old)
         × (patterns.new ≡ patterns.old) }
@@ -63,7 +64,7 @@ pub(crate) fn dispatch<S: Source, K: Sink, D: Device, C: Clock, P: PatternMaker,
         → result.0 ≢ NotOpened
         → LeavesAlone D.Device.own disk result.1 }
     ensures unread { (IsPastOpening result.0 → ⊥) → source.new ≡ source.old }
-    ensures alone { (line : List ℕ) → Spells (map string_bytes words.now) (Alone line)
+    ensures alone { (c : Command) → TakesNothing c → Spells (map string_bytes words.now) c
         → source.new ≡ source.old }
 {
     match read_words(alloc, words) {
@@ -88,7 +89,8 @@ fn on_store<S: Source, K: Sink, D: Device, C: Clock, P: PatternMaker, G: Gate>(
         × RefusesOnly P.makes patterns.old patterns.new o.refused
         × HasDone false (command_of asked) o
         (edges S.left S.faults K.taken K.faults C.moments D.Device.own source.old sink.old clock.old disk)
-        (edges S.left S.faults K.taken K.faults C.moments D.Device.own source.new sink.new clock.new result.1) }
+        (edges S.left S.faults K.taken K.faults C.moments D.Device.own source.new sink.new clock.new result.1)
+        × FindsBytes D.Device.own disk result.1 o }
     ensures recovers { IsTrue (D.tells disk) → IsSoundImage (D.held disk)
         → (o : Outcome) × (o.ending ≡ result.0)
         × RefusesOnly P.makes patterns.old patterns.new o.refused
@@ -100,7 +102,7 @@ fn on_store<S: Source, K: Sink, D: Device, C: Clock, P: PatternMaker, G: Gate>(
         → result.0 ≢ NotOpened
         → LeavesAlone D.Device.own disk result.1 }
     ensures unread { (IsPastOpening result.0 → ⊥) → source.new ≡ source.old }
-    ensures alone { (line : List ℕ) → command_of asked ≡ Alone line → source.new ≡ source.old }
+    ensures alone { TakesNothing (command_of asked) → source.new ≡ source.old }
 {
     let moment = clock.now();
     match Core::open_store(alloc, disk, moment) {
@@ -134,7 +136,7 @@ fn do_asked<S: Source, K: Sink, D: Device, C: Clock, P: PatternMaker, G: Gate>(
     ensures spent { result.0 ≡ Spent
         → TakesBytes (S.left source.old) (S.left source.new) 0 taken_limit }
     ensures endings { IsPastOpening result.0 }
-    ensures alone { (line : List ℕ) → command_of asked ≡ Alone line → source.new ≡ source.old }
+    ensures alone { TakesNothing (command_of asked) → source.new ≡ source.old }
 {
     match asked {
         Asked::Session => session(
@@ -149,6 +151,11 @@ fn do_asked<S: Source, K: Sink, D: Device, C: Clock, P: PatternMaker, G: Gate>(
         Asked::Ingest => {
             let mut core = core;
             let ending = ingest(alloc, source, sink, &mut core, clock, gate);
+            (ending, Store::Open(core))
+        }
+        Asked::Drill { seed, traces } => {
+            let mut core = core;
+            let ending = drill(alloc, sink, &mut core, clock, patterns, gate, seed, traces);
             (ending, Store::Open(core))
         }
         Asked::Alone { line } => {

@@ -227,7 +227,7 @@ fn push_line<K: Sink, D: Device, C: Clock, G: Gate>(
 }
 
 // Pushes what a line holds that was read at this moment, in nanoseconds.
-fn push<D: Device, G: Gate>(
+pub(crate) fn push<D: Device, G: Gate>(
     alloc: Global,
     core: &mut Core<D>,
     gate: &G,
@@ -498,7 +498,7 @@ fn compact_once<K: Sink, D: Device, G: Gate>(
 }
 
 // Whether blocks were joined.
-fn is_joined(reply: &Reply) -> bool
+pub(crate) fn is_joined(reply: &Reply) -> bool
     ensures { result ≡ is_joined reply.now }
 {
     matches!(reply, Reply::Compacted { .. })

@@ -12,7 +12,7 @@ use std::{env, io};
 pub enum Unread {
     /// One of them isn't UTF-8.
     NotText,
-    /// Memory was wanted and not given.
+    /// There was no memory for them.
     Memory,
 }
 

@@ -79,7 +79,7 @@ impl Tally {
 }
 
 // Whether a reply is a refusal for another cause than memory.
-fn is_refusal(reply: &Reply) -> bool
+pub(crate) fn is_refusal(reply: &Reply) -> bool
     ensures { result ≡ is_refusal reply.now }
 {
     match reply {
@@ -91,7 +91,7 @@ fn is_refusal(reply: &Reply) -> bool
 }
 
 // Whether a reply is a refusal for memory.
-fn is_for_memory(reply: &Reply) -> bool
+pub(crate) fn is_for_memory(reply: &Reply) -> bool
     ensures { result ≡ is_for_memory reply.now }
 {
     match reply {
@@ -364,7 +364,7 @@ fn refused_long<D: Device>(store: &Store<D>, length: u64) -> Reply
 }
 
 // Answers a line that was read at this moment, in nanoseconds.
-fn answer<Q: Port, P: PatternMaker, G: Gate>(
+pub(crate) fn answer<Q: Port, P: PatternMaker, G: Gate>(
     alloc: Global,
     port: &mut Q,
     patterns: &mut P,

@@ -3,12 +3,11 @@
 
 ghost use Rattle.std.specs.Prelude.{true, false, ◌≡◌, ◌≢◌, ◌⊎◌, List, [], map, string_bytes, ℕ, IsTrue};
 ghost use Rattle.std.specs.Process.{exit_status};
-ghost use Rattle.clap.specs.Words.{fault_of};
-ghost use Rattle.command_words.specs.Commands.{Alone, Spells};
-ghost use Rattle.command_words.specs.Table.{words_app};
-ghost use Rattle.session_meaning.specs.Runs.{IsRunOf, Outcome, edges};
+ghost use Rattle.command_words.specs.Commands.{Command, Spells};
+ghost use Rattle.command_words.specs.Numbers.{word_faults};
+ghost use Rattle.session_meaning.specs.Runs.{IsRunOf, Outcome, TakesNothing, edges};
 ghost use Rattle.session_meaning.specs.Statuses.{status_of};
-ghost use Rattle.session_meaning.specs.Stops.{Recovers};
+ghost use Rattle.session_meaning.specs.Stops.{FindsBytes, Recovers};
 ghost use Rattle.store_core.specs.Opening.{LeavesAlone, StoreBreaks};
 ghost use Rattle.store_images.specs.Stored.{IsSoundImage};
 ghost use Rattle.traceql_types.specs.Makers.{RefusesOnly};
@@ -43,11 +42,11 @@ pub fn exit_code<D: Drop>(ended: Ended<D>) -> ExitCode
 }
 
 /// Does what the words of the command line say on the store of the disk: `session` answers each line of the source, and
-/// at each line `reopen` closes the store and opens it again; `ingest` pushes each line and keeps the store up;
-/// `trace ID` answers the one line `trace ID`, and `search QUERY` with its options the one line that these make. The
-/// store is opened at the clock's first moment, in nanoseconds, and a new one is made on a disk that has none; the clock
-/// is then asked once for each line that has bytes. The disk is handed back as the store left it. No right to wait is
-/// needed.
+/// at each line `reopen` closes the store and opens it again; `ingest` pushes each line and keeps the store up; `drill`
+/// pushes lines that it makes from a seed, keeps the store up and searches it; `trace ID` answers the one line
+/// `trace ID`, and `search QUERY` with its options the one line that these make. The store is opened at the clock's first
+/// moment, in nanoseconds, and a new one is made on a disk that has none; the clock is then asked once for each line that
+/// has bytes. The disk is handed back as the store left it. No right to wait is needed.
 pub fn run_alone<
     R: Threads + Sync,
     S: Source,
@@ -68,24 +67,27 @@ pub fn run_alone<
     gate: &G,
 ) -> Ended<D>
     // What the words ask was done, the maker refused what the outcome says, and the status tells how it ended. Queries
-    // tell of all rows outside of blocks; what they find in blocks isn't said.
+    // tell of all rows outside of blocks; what they find in blocks isn't said. Where the disk shows its bytes, whatever
+    // they are, an opening again is refused for bytes that break and that a crash may have left since the run began, and
+    // if the store is closed for them at the end, the disk that is handed back holds them.
     ensures ran { (o : Outcome) × RefusesOnly P.makes patterns.old patterns.new o.refused
         × IsRunOf false (map string_bytes words.now) o
         (edges S.left S.faults K.taken K.faults C.moments D.Device.own source.old sink.old clock.old disk)
         (edges S.left S.faults K.taken K.faults C.moments D.Device.own source.new sink.new clock.new result.disk)
-        × (result.status ≡ status_of o.ending) }
+        × (result.status ≡ status_of o.ending) × FindsBytes D.Device.own disk result.disk o }
     // Over a disk whose bytes are shown and are a store's: it was done from what they store on, queries tell of all
-    // that was pushed, wherever it lies, and what is stored as the disk is handed back, or whenever the run is
-    // stopped, holds every push that was accepted by then. Where the store is open at the end and writes, what upkeep was
-    // told to have done stands on the disk.
+    // that was pushed, wherever it lies, and what is stored as the disk is handed back, also if each of its calls failed
+    // from some on, holds every push that was accepted by then; at any other moment it is a front of that. If the store
+    // still writes at the end, and no opening failed in a
+    // call of the disk since it was last open, what upkeep was told to have done stands on the disk.
     ensures recovers { IsTrue (D.tells disk) → IsSoundImage (D.held disk)
         → (o : Outcome) × RefusesOnly P.makes patterns.old patterns.new o.refused
         × IsRunOf true (map string_bytes words.now) o
         (edges S.left S.faults K.taken K.faults C.moments D.Device.own source.old sink.old clock.old disk)
         (edges S.left S.faults K.taken K.faults C.moments D.Device.own source.new sink.new clock.new result.disk)
         × (result.status ≡ status_of o.ending) × Recovers D.Device.own disk result.disk o }
-    // Nothing is done for words at which `clap` finds a fault.
-    ensures nothing_done { fault_of words_app (map string_bytes words.now) ≢ []
+    // Nothing is done for faulty words: those at which `clap` finds a fault, or with a number out of its range.
+    ensures nothing_done { word_faults (map string_bytes words.now) ≢ []
         → (source.new ≡ source.old) × (sink.new ≡ sink.old) × (result.disk ≡ disk)
         × (clock.new ≡ clock.old)
         × (patterns.new ≡ patterns.old) }
@@ -96,8 +98,8 @@ pub fn run_alone<
         → LeavesAlone D.Device.own disk result.disk }
     // Where the disk failed as the store was opened, or its bytes broke, nothing was taken of the source.
     ensures unread { (result.status ≡ 4) ⊎ (result.status ≡ 5) → source.new ≡ source.old }
-    // A command that answers one line alone takes nothing of the source.
-    ensures alone { (line : List ℕ) → Spells (map string_bytes words.now) (Alone line)
+    // A command that answers one line alone takes nothing of the source, and nor does a drill.
+    ensures alone { (c : Command) → TakesNothing c → Spells (map string_bytes words.now) c
         → source.new ≡ source.old }
 {
     let (ending, disk) = dispatch(alloc, words, source, sink, disk, clock, patterns, gate);
@@ -128,24 +130,27 @@ pub fn run<
     gate: &G,
 ) -> Ended<D>
     // What the words ask was done, the maker refused what the outcome says, and the status tells how it ended. Queries
-    // tell of all rows outside of blocks; what they find in blocks isn't said.
+    // tell of all rows outside of blocks; what they find in blocks isn't said. Where the disk shows its bytes, whatever
+    // they are, an opening again is refused for bytes that break and that a crash may have left since the run began, and
+    // if the store is closed for them at the end, the disk that is handed back holds them.
     ensures ran { (o : Outcome) × RefusesOnly P.makes patterns.old patterns.new o.refused
         × IsRunOf false (map string_bytes words.now) o
         (edges S.left S.faults K.taken K.faults C.moments D.Device.own source.old sink.old clock.old disk)
         (edges S.left S.faults K.taken K.faults C.moments D.Device.own source.new sink.new clock.new result.disk)
-        × (result.status ≡ status_of o.ending) }
+        × (result.status ≡ status_of o.ending) × FindsBytes D.Device.own disk result.disk o }
     // Over a disk whose bytes are shown and are a store's: it was done from what they store on, queries tell of all
-    // that was pushed, wherever it lies, and what is stored as the disk is handed back, or whenever the run is
-    // stopped, holds every push that was accepted by then. Where the store is open at the end and writes, what upkeep was
-    // told to have done stands on the disk.
+    // that was pushed, wherever it lies, and what is stored as the disk is handed back, also if each of its calls failed
+    // from some on, holds every push that was accepted by then; at any other moment it is a front of that. If the store
+    // still writes at the end, and no opening failed in a
+    // call of the disk since it was last open, what upkeep was told to have done stands on the disk.
     ensures recovers { IsTrue (D.tells disk) → IsSoundImage (D.held disk)
         → (o : Outcome) × RefusesOnly P.makes patterns.old patterns.new o.refused
         × IsRunOf true (map string_bytes words.now) o
         (edges S.left S.faults K.taken K.faults C.moments D.Device.own source.old sink.old clock.old disk)
         (edges S.left S.faults K.taken K.faults C.moments D.Device.own source.new sink.new clock.new result.disk)
         × (result.status ≡ status_of o.ending) × Recovers D.Device.own disk result.disk o }
-    // Nothing is done for words at which `clap` finds a fault.
-    ensures nothing_done { fault_of words_app (map string_bytes words.now) ≢ []
+    // Nothing is done for faulty words: those at which `clap` finds a fault, or with a number out of its range.
+    ensures nothing_done { word_faults (map string_bytes words.now) ≢ []
         → (source.new ≡ source.old) × (sink.new ≡ sink.old) × (result.disk ≡ disk)
         × (clock.new ≡ clock.old)
         × (patterns.new ≡ patterns.old) }
@@ -156,8 +161,8 @@ pub fn run<
         → LeavesAlone D.Device.own disk result.disk }
     // Where the disk failed as the store was opened, or its bytes broke, nothing was taken of the source.
     ensures unread { (result.status ≡ 4) ⊎ (result.status ≡ 5) → source.new ≡ source.old }
-    // A command that answers one line alone takes nothing of the source.
-    ensures alone { (line : List ℕ) → Spells (map string_bytes words.now) (Alone line)
+    // A command that answers one line alone takes nothing of the source, and nor does a drill.
+    ensures alone { (c : Command) → TakesNothing c → Spells (map string_bytes words.now) c
         → source.new ≡ source.old }
 {
     run_alone(rt, alloc, words, source, sink, disk, clock, patterns, gate)

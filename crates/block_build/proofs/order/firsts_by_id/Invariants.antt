@@ -1,4 +1,4 @@
--- What is left is to go on behind the best row so far.
+-- What is left is to go on after the best row so far.
 use Rattle.std.proofs.Common.{◌≡◌, ◌++◌, drop}
 use Rattle.block_build.specs.Settling.{firsts_behind}
 use Rattle.block_build.proofs.order.firsts_by_id.Given as goal

@@ -12,4 +12,6 @@ returns c =
     let given = c.in_ok-trace_command.ensures in
     let third = c.in_ok-subcommand-3.ensures.shape given.local ∙ ap₂ with_subcommand second given.shape in
     let asked = c.in_ok-search_command.ensures in
-    IfOk-weaker c.subcommand-4.result _ _ (λ m added. added.shape asked.local ∙ ap₂ with_subcommand third asked.shape) c.subcommand-4.ensures
+    let fourth = c.in_ok-subcommand-4.ensures.shape asked.local ∙ ap₂ with_subcommand third asked.shape in
+    let made = c.in_ok-drill_command.ensures in
+    IfOk-weaker c.subcommand-5.result _ _ (λ m added. added.shape made.local ∙ ap₂ with_subcommand fourth made.shape) c.subcommand-5.ensures

@@ -1,4 +1,5 @@
 use Rattle.command_words.proofs.Spelled.{spelled_clean, spelled_one, spelled_some, spelled_taken}
+use Rattle.command_words.proofs.TakenDrill.{drill_taken}
 use Rattle.command_words.proofs.laws.what_words_spell.Goals as goal
 
 pub returns-clause-clean : goal.returns-clause-clean
@@ -12,3 +13,6 @@ returns-clause-one c = spelled_one
 
 pub returns-clause-taken : goal.returns-clause-taken
 returns-clause-taken c = spelled_taken
+
+pub returns-clause-drills : goal.returns-clause-drills
+returns-clause-drills c = drill_taken

@@ -1,10 +1,14 @@
-use Rattle.std.proofs.Common.{◌≡◌, ◌∙◌, ℕ, List, Some, None, ap, is_some, map, string_bytes, subst, sym}
+use Rattle.std.proofs.Common.{◌≡◌, ◌∙◌, ℕ, List, [], Some, None, Err, ap, arith, rules, is_some, map, string_bytes, subst, sym}
+use Rattle.std.proofs.lemmas.Grind.{common_steps}
 use Rattle.std.proofs.lemmas.Result.{IfOk-weaker}
 use Rattle.std.specs.Borrow.{Bor}
+use Rattle.clap.specs.Words.{fault_of}
 use Rattle.clap.specs.declared.parser.matches.ArgMatches.{ArgMatches}
 use Rattle.command_words.specs.Commands.{ingest, session}
-use Rattle.command_words.proofs.Found.{told, tells_ingest, tells_one, tells_search, tells_session, tells_trace}
-use Rattle.command_words.proofs.Spelled.{never_refused, search_asked, strings_are_text, trace_asked}
+use Rattle.command_words.specs.Table.{words_app}
+use Rattle.command_words.specs.declared.asked.WordsError.TheVariants.{Refused}
+use Rattle.command_words.proofs.Found.{told, tells_drill, tells_ingest, tells_one, tells_search, tells_session, tells_trace}
+use Rattle.command_words.proofs.Spelled.{clap_refused, drill_asked, drill_refused, never_refused, search_asked, strings_are_text, trace_asked}
 use Rattle.command_words.proofs.Whole.{IsBareTrace}
 use Rattle.command_words.proofs.read.read_words.Goals as goal
 
@@ -26,6 +30,41 @@ returns-in-ingest-clause-asked c =
     let met : Bor (List ℕ) × Bor ArgMatches = (c.in-Some.name, c.in-Some.given) in
     let tells = told words c.in_ok-matches.matches (Some met) c.in_ok-matches.ensures.no_fault c.in_ok-matches.ensures.found c.in-Some.ensures.name c.in-Some.ensures.rows in
     ingest (tells_ingest words met tells c.in-ingest.is)
+
+pub returns-in_err-matches-clause-refused : goal.returns-in_err-matches-clause-refused
+returns-in_err-matches-clause-refused c =
+    let words = map string_bytes c.args.words.now in
+    let by_clap : c.from_residual.result ≡ Err Refused → fault_of words_app words ≡ [] → ⊥ = first_of (search rules, grind (arith, common_steps)) in
+    λ refused. clap_refused words (by_clap refused)
+
+pub asked_drill-requires-clause-seed : goal.asked_drill-requires-clause-seed
+asked_drill-requires-clause-seed c =
+    let words = map string_bytes c.args.words.now in
+    let met : Bor (List ℕ) × Bor ArgMatches = (c.in-Some.name, c.in-Some.given) in
+    let tells = told words c.in_ok-matches.matches (Some met) c.in_ok-matches.ensures.no_fault c.in_ok-matches.ensures.found c.in-Some.ensures.name c.in-Some.ensures.rows in
+    (tells_drill words met tells c.in-drill.is).has_seed
+
+pub asked_drill-requires-clause-traces : goal.asked_drill-requires-clause-traces
+asked_drill-requires-clause-traces c =
+    let words = map string_bytes c.args.words.now in
+    let met : Bor (List ℕ) × Bor ArgMatches = (c.in-Some.name, c.in-Some.given) in
+    let tells = told words c.in_ok-matches.matches (Some met) c.in_ok-matches.ensures.no_fault c.in_ok-matches.ensures.found c.in-Some.ensures.name c.in-Some.ensures.rows in
+    (tells_drill words met tells c.in-drill.is).has_traces
+
+pub returns-in-drill-clause-asked : goal.returns-in-drill-clause-asked
+returns-in-drill-clause-asked c =
+    let words = map string_bytes c.args.words.now in
+    let met : Bor (List ℕ) × Bor ArgMatches = (c.in-Some.name, c.in-Some.given) in
+    let tells = told words c.in_ok-matches.matches (Some met) c.in_ok-matches.ensures.no_fault c.in_ok-matches.ensures.found c.in-Some.ensures.name c.in-Some.ensures.rows in
+    IfOk-weaker c.asked_drill.result _ _
+    (drill_asked words _ c.in_ok-matches.ensures.no_fault (tells_drill words met tells c.in-drill.is)) c.asked_drill.ensures.ok
+
+pub returns-in-drill-clause-refused : goal.returns-in-drill-clause-refused
+returns-in-drill-clause-refused c =
+    let words = map string_bytes c.args.words.now in
+    let met : Bor (List ℕ) × Bor ArgMatches = (c.in-Some.name, c.in-Some.given) in
+    let tells = told words c.in_ok-matches.matches (Some met) c.in_ok-matches.ensures.no_fault c.in_ok-matches.ensures.found c.in-Some.ensures.name c.in-Some.ensures.rows in
+    λ e. drill_refused words _ (tells_drill words met tells c.in-drill.is) (c.asked_drill.ensures.refused e)
 
 pub id_of-requires : goal.id_of-requires
 id_of-requires c =
@@ -71,4 +110,4 @@ unreachable-requires-in_default-name c =
     let words = map string_bytes c.args.words.now in
     let met : Bor (List ℕ) × Bor ArgMatches = (c.in-Some.name, c.in-Some.given) in
     let tells = told words c.in_ok-matches.matches (Some met) c.in_ok-matches.ensures.no_fault c.in_ok-matches.ensures.found c.in-Some.ensures.name c.in-Some.ensures.rows in
-    tells_one words met tells c.in_default-name.not-session c.in_default-name.not-ingest c.in_default-name.not-trace c.in_default-name.not-search
+    tells_one words met tells c.in_default-name.not-session c.in_default-name.not-ingest c.in_default-name.not-drill c.in_default-name.not-trace c.in_default-name.not-search

@@ -4,7 +4,7 @@ use Rattle.disk_model.proofs.Runs.{untouched_call, untouched_then}
 use Rattle.head_log.specs.declared.numbered.NumberedBatch.{NumberedBatch}
 use Rattle.head_log.specs.declared.read_back.LogError.TheVariants as log_errors
 use Rattle.store_core.specs.declared.error.OpenError.TheVariants.{Fault}
-use Rattle.disk_model.proofs.CallRuns.{counts_then}
+use Rattle.disk_model.proofs.CallRuns.{counts_then, passes_once}
 use Rattle.store_core.proofs.Counted.{broke_answer, fine_answer, other_answer, plain_fault, plain_fine, then_answer, went_well}
 use Rattle.store_core.proofs.LogSteps.{read_of}
 use Rattle.store_core.proofs.reading.add_segment.Goals as goal
@@ -36,7 +36,7 @@ returns-in-Ok-append-clause-untouched g c =
 -- ---- what it counts
 
 pub returns-in_default-clause-counted : goal.returns-in_default-clause-counted
-returns-in_default-clause-counted g c = plain_fault g.D.Device Fault c.args.disk.now c.sync.new.self _ c.sync.ensures.time.later c.in_default.ensures.counted
+returns-in_default-clause-counted g c = plain_fault g.D.Device Fault c.args.disk.now c.sync.new.self _ (passes_once g.D.Device _ _ c.sync.ensures.time) c.in_default.ensures.counted
 
 pub returns-in-Ok-append-clause-counted : goal.returns-in-Ok-append-clause-counted
 returns-in-Ok-append-clause-counted g c =
@@ -45,7 +45,7 @@ returns-in-Ok-append-clause-counted g c =
     let mid = c.sync.new.self in
     let new = c.scan.new.disk in
     other_answer d Fault disk new _ (λ is. absurd cc)
-    (counts_then d 0 (Unit {0}) ⊥ (Unit {0}) ⊥ disk mid new (plain_fine d disk mid _ c.sync.ensures.time.later c.in-Ok.ensures.counted) tt (fine_answer d 0 log_errors.Fault mid new _ c.in-Ok-scan.ensures.counted))
+    (counts_then d 0 (Unit {0}) ⊥ (Unit {0}) ⊥ disk mid new (plain_fine d disk mid _ (passes_once g.D.Device _ _ c.sync.ensures.time) c.in-Ok.ensures.counted) tt (fine_answer d 0 log_errors.Fault mid new _ c.in-Ok-scan.ensures.counted))
 
 pub returns-in-Err-Fault-clause-counted : goal.returns-in-Err-Fault-clause-counted
 returns-in-Err-Fault-clause-counted g c =
@@ -53,7 +53,7 @@ returns-in-Err-Fault-clause-counted g c =
     let disk = c.args.disk.now in
     let mid = c.sync.new.self in
     let new = c.scan.new.disk in
-    then_answer d Fault disk mid new _ (plain_fine d disk mid _ c.sync.ensures.time.later c.in-Ok.ensures.counted)
+    then_answer d Fault disk mid new _ (plain_fine d disk mid _ (passes_once g.D.Device _ _ c.sync.ensures.time) c.in-Ok.ensures.counted)
     (broke_answer d Fault mid new c.in-Err-Fault.ensures.counted (ap Err c.in-Err-Fault.field-0-is))
 
 pub returns-in-Err-NotLog-clause-counted : goal.returns-in-Err-NotLog-clause-counted
@@ -64,4 +64,4 @@ returns-in-Err-NotLog-clause-counted g c =
     let new = c.scan.new.disk in
     let e = c.in-Err-NotLog.field-0-is in
     other_answer d Fault disk new _ (λ is. absurd cc)
-    (counts_then d 0 (Unit {0}) ⊥ (Unit {0}) ⊥ disk mid new (plain_fine d disk mid _ c.sync.ensures.time.later c.in-Ok.ensures.counted) tt (went_well d mid new c.in-Err-NotLog.ensures.counted (λ is. absurd cc) (λ is. absurd cc)))
+    (counts_then d 0 (Unit {0}) ⊥ (Unit {0}) ⊥ disk mid new (plain_fine d disk mid _ (passes_once g.D.Device _ _ c.sync.ensures.time) c.in-Ok.ensures.counted) tt (went_well d mid new c.in-Err-NotLog.ensures.counted (λ is. absurd cc) (λ is. absurd cc)))

@@ -1,8 +1,8 @@
-use Rattle.std.proofs.Common.{false, true, Err, ap, map, refl, string_bytes, ◌∙◌}
+use Rattle.std.proofs.Common.{false, true, Err, ap, map, refl, string_bytes, subst, ◌∙◌}
 use Rattle.command_words.specs.Commands.{Spells, command_of}
 use Rattle.command_words.proofs.Spelled.{spelled_clean, spelled_one}
 use Rattle.session_meaning.specs.declared.ending.Ending.TheVariants.{BadWords, Starved}
-use Rattle.session_meaning.specs.Runs.{Edges, edges}
+use Rattle.session_meaning.specs.Runs.{Edges, TakesNothing, edges}
 use Rattle.traceql_types.proofs.Calls.{refuses-none}
 use Rattle.trace_shell.proofs.RunLemmas.{is_run, left_same, refused_runs, starved_runs, unopened, untouched_recovers}
 use Rattle.trace_shell.proofs.dispatch.dispatch.Goals as goal
@@ -15,7 +15,7 @@ returns-in-Ok-clause-ran g c =
     let old : Edges = edges g.S.Source.left g.S.Source.faults g.K.Sink.taken g.K.Sink.faults g.C.Clock.moments d c.args.source.now c.args.sink.now c.args.clock.now c.args.disk in
     let new : Edges = edges g.S.Source.left g.S.Source.faults g.K.Sink.taken g.K.Sink.faults g.C.Clock.moments d c.on_store.new.source c.on_store.new.sink c.on_store.new.clock c.on_store.result.1 in
     let ran = c.on_store.ensures.ran in
-    (ran.0, ran.1, ran.2, is_run false words (command_of c.in-Ok.asked) ran.0 old new asks ran.3)
+    (ran.0, ran.1, ran.2, is_run false words (command_of c.in-Ok.asked) ran.0 old new asks ran.3, ran.4)
 
 pub returns-in-Ok-clause-recovers : goal.returns-in-Ok-clause-recovers
 returns-in-Ok-clause-recovers g c = λ told sound.
@@ -33,9 +33,9 @@ returns-in-Ok-clause-nothing_done g c = λ faulty.
     absurd (faulty (spelled_clean words (command_of c.in-Ok.asked) c.in-Ok.ensures.asked))
 
 pub returns-in-Ok-clause-alone : goal.returns-in-Ok-clause-alone
-returns-in-Ok-clause-alone g c = λ line alone.
+returns-in-Ok-clause-alone g c = λ asks takes spells.
     let words = map string_bytes c.args.words.now in
-    c.on_store.ensures.alone line (spelled_one words (command_of c.in-Ok.asked) _ c.in-Ok.ensures.asked alone)
+    c.on_store.ensures.alone (subst TakesNothing (spelled_one words asks (command_of c.in-Ok.asked) spells c.in-Ok.ensures.asked) takes)
 
 pub returns-in-Err-Refused-clause-ran : goal.returns-in-Err-Refused-clause-ran
 returns-in-Err-Refused-clause-ran g c = (
@@ -44,6 +44,7 @@ returns-in-Err-Refused-clause-ran g c = (
   refuses-none g.P.PatternMaker.makes _ c.args.patterns.now c.args.patterns.now,
   refused_runs false (map string_bytes c.args.words.now) (edges g.S.Source.left g.S.Source.faults g.K.Sink.taken g.K.Sink.faults g.C.Clock.moments g.D.Device c.args.source.now c.args.sink.now c.args.clock.now c.args.disk)
       (c.read_words.ensures.refused (c.in-Err-Refused.is ∙ ap Err c.in-Err-Refused.field-0-is)),
+  record { fit = λ told. tt; closed = λ told. tt },
 )
 
 pub returns-in-Err-Refused-clause-recovers : goal.returns-in-Err-Refused-clause-recovers
@@ -62,6 +63,7 @@ returns-in-Err-Memory-clause-ran g c = (
   refl,
   refuses-none g.P.PatternMaker.makes _ c.args.patterns.now c.args.patterns.now,
   starved_runs false (map string_bytes c.args.words.now) (edges g.S.Source.left g.S.Source.faults g.K.Sink.taken g.K.Sink.faults g.C.Clock.moments g.D.Device c.args.source.now c.args.sink.now c.args.clock.now c.args.disk),
+  record { fit = λ told. tt; closed = λ told. tt },
 )
 
 pub returns-in-Err-Memory-clause-recovers : goal.returns-in-Err-Memory-clause-recovers

@@ -1,13 +1,13 @@
-use Rattle.std.proofs.Common.{◌≡◌, [], ◌∷◌, List, ap, map, refl, string_bytes, subst, sym, ◌∙◌, ℕ}
+use Rattle.std.proofs.Common.{◌≡◌, [], ◌∷◌, List, map, refl, string_bytes, subst, sym, ◌∙◌, ℕ}
 use Rattle.command_words.specs.Commands.{command_of}
 use Rattle.session_meaning.specs.Act.Act.{Ask}
 use Rattle.session_meaning.specs.Asked.{AsksNext}
+use Rattle.session_meaning.specs.Runs.{TakesNothing}
 use Rattle.store_core.specs.Port.{port_of}
 use Rattle.store_reopen.specs.declared.store.Store.TheVariants.{Open}
 use Rattle.traceql_types.proofs.Calls.{refuses-none}
 use Rattle.trace_shell.specs.Turn.{CameOver}
 use Rattle.trace_shell.proofs.AloneLemmas.{alone_ends}
-use Rattle.trace_shell.proofs.RunLemmas.{ingest_is_not_alone, session_is_not_alone}
 use Rattle.session_meaning.proofs.SessionLaws.{over_one}
 use Rattle.trace_shell.proofs.dispatch.do_asked.Goals as goal
 
@@ -23,7 +23,7 @@ returns-in-Session-clause-came g c =
     )
 
 pub returns-in-Session-clause-alone : goal.returns-in-Session-clause-alone
-returns-in-Session-clause-alone g c = λ line is. absurd (session_is_not_alone line (ap command_of (sym c.in-Session.is) ∙ is))
+returns-in-Session-clause-alone g c = λ takes. absurd (subst (λ a. TakesNothing (command_of a)) c.in-Session.is takes)
 
 pub returns-in-Ingest-clause-came : goal.returns-in-Ingest-clause-came
 returns-in-Ingest-clause-came g c =
@@ -38,7 +38,28 @@ returns-in-Ingest-clause-came g c =
     )
 
 pub returns-in-Ingest-clause-alone : goal.returns-in-Ingest-clause-alone
-returns-in-Ingest-clause-alone g c = λ line is. absurd (ingest_is_not_alone line (ap command_of (sym c.in-Ingest.is) ∙ is))
+returns-in-Ingest-clause-alone g c = λ takes. absurd (subst (λ a. TakesNothing (command_of a)) c.in-Ingest.is takes)
+
+pub returns-in-Drill-clause-came : goal.returns-in-Drill-clause-came
+returns-in-Drill-clause-came g c =
+    let ran = c.drill-ending.ensures.ran in (
+      map Ask ran.0,
+      ran.1,
+      ran.2,
+      ran.3,
+      subst (λ a. CameOver (command_of a) g.D.Device c.args.core (Open c.drill-ending.new.core) (g.S.Source.left c.args.source.now) (g.K.Sink.taken c.args.sink.now) (g.C.Clock.moments c.args.clock.now)
+          (g.S.Source.left c.args.source.now) (g.K.Sink.taken c.drill-ending.new.sink) (g.C.Clock.moments c.drill-ending.new.clock) c.drill-ending.result (map Ask ran.0) ran.1 ran.2)
+          (sym c.in-Drill.is) (c.drill-ending.new.core, refl, ran.0, refl, ran.4, refl, ran.5),
+    )
+
+pub returns-in-Drill-clause-read_fault : goal.returns-in-Drill-clause-read_fault
+returns-in-Drill-clause-read_fault g c = λ is. absurd ((alone_ends c.drill-ending.result c.drill-ending.ensures.endings).0 is)
+
+pub returns-in-Drill-clause-spent : goal.returns-in-Drill-clause-spent
+returns-in-Drill-clause-spent g c = λ is. absurd ((alone_ends c.drill-ending.result c.drill-ending.ensures.endings).1 is)
+
+pub returns-in-Drill-clause-endings : goal.returns-in-Drill-clause-endings
+returns-in-Drill-clause-endings g c = (alone_ends c.drill-ending.result c.drill-ending.ensures.endings).3
 
 pub returns-in-Alone-clause-came : goal.returns-in-Alone-clause-came
 returns-in-Alone-clause-came g c =

@@ -2,7 +2,7 @@ use Rattle.std.proofs.Common.{arith, IsTrue, false, true, List, Option, [], ap, 
 use Rattle.command_words.specs.Commands.{command_of}
 use Rattle.session_meaning.specs.Asked.{after_moment}
 use Rattle.session_meaning.specs.Runs.{Edges, edges}
-use Rattle.session_meaning.specs.Stops.{Recovers}
+use Rattle.session_meaning.specs.Stops.{FindsBytes, Recovers}
 use Rattle.session_meaning.specs.At.{At}
 use Rattle.store_core.specs.Opening.{StoreBreaks}
 use Rattle.store_reopen.proofs.Through.{keeps_from_now}
@@ -10,6 +10,7 @@ use Rattle.store_reopen.specs.declared.store.Store.TheVariants.{Open}
 use Rattle.store_images.specs.Stored.{IsSoundImage}
 use Rattle.store_model.specs.History.{count_of}
 use Rattle.session_meaning.proofs.CoreSessions.{StandsThrough}
+use Rattle.session_meaning.proofs.FoundBytes.{all_fit, closed_for}
 use Rattle.session_meaning.proofs.StoreSessions.{are_done, over_tells}
 use Rattle.session_meaning.specs.Answering.{at_core}
 use Rattle.session_meaning.specs.Place.{opened_at}
@@ -38,6 +39,7 @@ returns-in-Ok-clause-ran g c =
     let new : Edges = edges g.S.Source.left g.S.Source.faults g.K.Sink.taken g.K.Sink.faults g.C.Clock.moments d c.do_asked-ending.new.source c.do_asked-ending.new.sink c.do_asked-ending.new.clock c.into_disk.result in
     let come = subst (λ (o : Option (List ℕ)). CameOver (command_of c.args.asked) d core store old.left old.taken o new.left new.taken new.moments e came.0 came.1 came.2)
     c.now-moment.ensures.later came.4 in
+    let over = done_over d (command_of c.args.asked) core store old.left old.taken (after_moment old.moments) new.left new.taken new.moments e came.0 came.1 came.2 come in
     let run = came_shown d core store begins.0 old.left old.taken (after_moment old.moments) new.left new.taken new.moments e came.0 came.1 came.2 (command_of c.args.asked) begins.1.shows come in (
       in_a_store d moment core begins.0 run.0 e came.0 came.1 came.2,
       refl,
@@ -47,6 +49,11 @@ returns-in-Ok-clause-ran g c =
           run.3
           c.do_asked-ending.ensures.endings
           (cause_of e old new c.do_asked-ending.ensures.endings c.do_asked-ending.ensures.write_fault c.do_asked-ending.ensures.read_fault c.do_asked-ending.ensures.spent),
+      subst (λ x. FindsBytes d disk x (in_a_store d moment core begins.0 run.0 e came.0 came.1 came.2)) (sym c.into_disk.ensures)
+          (record {
+            fit = λ told. all_fit d g.met.D.Device.held_may_stay g.met.D.Device.counts_now disk came.0 came.1 (Open core) store c.in-Ok.ensures.calls.time (subst IsTrue (sym c.in-Ok.ensures.calls.telling) told) over;
+            closed = λ told. closed_for d came.0 came.1 (Open core) store (subst IsTrue (sym c.in-Ok.ensures.calls.telling) told) over;
+          }),
     )
 
 pub returns-in-Ok-clause-recovers : goal.returns-in-Ok-clause-recovers
@@ -98,6 +105,7 @@ returns-in-Err-clause-ran g c =
           c.in-Err.ensures.calls_refused.fault c.in-Err.ensures.calls_refused.quiet (c.in-Err.ensures.calls_refused.near (omega arith))
           (λ file at is. if_told d c.args.disk (λ image. StoreBreaks image file at × (IsSoundImage image → ⊥))
           (λ told. (c.in-Err.ensures.not_store told file at is, λ sound. c.in-Err.ensures.sound told sound file at is))),
+      record { fit = λ told. tt; closed = λ told. tt },
     )
 
 pub returns-in-Err-clause-recovers : goal.returns-in-Err-clause-recovers

@@ -6,7 +6,7 @@ use Rattle.trace_shell.proofs.top.run_alone.Goals as goal
 pub returns-clause-ran : goal.returns-clause-ran
 returns-clause-ran g c =
     let ran = c.dispatch-ending.ensures.ran in
-    (ran.0, ran.2, ran.3, c.status.ensures ∙ ap status_of (sym ran.1))
+    (ran.0, ran.2, ran.3, c.status.ensures ∙ ap status_of (sym ran.1), ran.4)
 
 pub returns-clause-recovers : goal.returns-clause-recovers
 returns-clause-recovers g c = λ told sound.

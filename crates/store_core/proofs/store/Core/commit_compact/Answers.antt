@@ -1,6 +1,6 @@
 use Rattle.std.proofs.Common.{◌≡◌, ◌∙◌, ℕ, List, ◌==◌, Option, Some, length, if◌then◌else◌, refl, sym, ap, subst, arith}
 use Rattle.std.specs.Prelude.{◌||◌}
-use Rattle.disk_model.proofs.CallRuns.{plain_calls}
+use Rattle.disk_model.proofs.CallRuns.{passes_once, plain_calls}
 use Rattle.block_list.specs.Commit.{slot_of}
 use Rattle.block_list.proofs.ReadyLemmas.{can_lay}
 use Rattle.store_state.specs.Given.{info_files}
@@ -26,7 +26,7 @@ returns-in_default-sync g c =
     let e = c.sync.ensures in
     did_stopped g.D.Device core c.stop_writing.new.self _ _ c.stop_writing.ensures
     (did_sync_fail g.D.Device g.met.D.Device.only_now core c.sync.new.self _ (compact_commits c.args.job.out.number c.args.info.rows) (none_of core.state.read_only c.in_default.not-Some)
-    _ (plain_calls g.D.Device core.disk c.sync.new.self _ 0 e.time.later c.in_default-sync.ensures.counted) e.same_bytes e.crash e.time (g.D.Device.faults c.sync.new.self) refl refl)
+    _ (plain_calls g.D.Device core.disk c.sync.new.self _ 0 (passes_once g.D.Device _ _ e.time) c.in_default-sync.ensures.counted) e.same_bytes e.crash e.time (g.D.Device.faults c.sync.new.self) refl refl)
 
 pub joined_list-list-requires-clause-rules : goal.joined_list-list-requires-clause-rules
 joined_list-list-requires-clause-rules g c =

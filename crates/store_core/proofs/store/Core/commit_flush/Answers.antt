@@ -1,5 +1,5 @@
 use Rattle.std.proofs.Common.{◌∙◌, Some, refl}
-use Rattle.disk_model.proofs.CallRuns.{plain_calls}
+use Rattle.disk_model.proofs.CallRuns.{passes_once, plain_calls}
 use Rattle.block_list.specs.Commit.{slot_of}
 use Rattle.block_list.proofs.ReadyLemmas.{can_lay}
 use Rattle.store_core.proofs.CommitAnswers.{did_stopped, firsts, flush_here, rules_known, commits, next_generation, other_named, loose_fits, infos_spent, unsure_spent, unsure_after_spent, spent_is, has_stopped_spent, took_over}
@@ -18,7 +18,7 @@ returns-in_default-sync g c =
     let e = c.sync.ensures in
     did_stopped g.D.Device core c.stop_writing.new.self _ _ c.stop_writing.ensures
     (did_sync_fail g.D.Device g.met.D.Device.only_now core c.sync.new.self _ (flush_commits c.args.job.out.number c.args.info.rows) (none_of core.state.read_only c.in_default.not-Some)
-    _ (plain_calls g.D.Device core.disk c.sync.new.self _ 0 e.time.later c.in_default-sync.ensures.counted) e.same_bytes e.crash e.time (g.D.Device.faults c.sync.new.self) refl refl)
+    _ (plain_calls g.D.Device core.disk c.sync.new.self _ 0 (passes_once g.D.Device _ _ e.time) c.in_default-sync.ensures.counted) e.same_bytes e.crash e.time (g.D.Device.faults c.sync.new.self) refl refl)
 
 pub next_list-list-requires-clause-rules : goal.next_list-list-requires-clause-rules
 next_list-list-requires-clause-rules g c =

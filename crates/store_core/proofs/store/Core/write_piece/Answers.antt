@@ -1,6 +1,6 @@
 use Rattle.std.proofs.Common.{ℕ, ◌+◌, List, length, refl, sym, subst, ◌∙◌, ap, arith, length-append}
 use Rattle.disk_model.specs.Images.{bytes_of}
-use Rattle.disk_model.proofs.CallRuns.{write_calls}
+use Rattle.disk_model.proofs.CallRuns.{passes_once, write_calls}
 use Rattle.disk_model.proofs.BytesLemmas.{overwritten_end}
 use Rattle.store_model.specs.Event.Event.{WritePiece}
 use Rattle.store_model.specs.Event.Reply.{Refused}
@@ -24,7 +24,7 @@ returns-in-Ok-clause-did g c =
     let known = c.requires.job in
     did_piece g.D.Device g.met.D.Device.only_now core c.write.new.self c.args.out.now.number c.args.out.now.file c.args.out.now.written c.args.bytes.now (none_of core.state.read_only c.in_default.not-Some)
     (job_file core.state known.0 c.args.out.now known.1.state.has known.2)
-    _ (write_calls g.D.Device core.disk c.write.new.self _ (c.args.out.now.written + length c.args.bytes.now) c.write.ensures.time.later c.in-Ok.ensures.counted) c.write.ensures.besides c.write.ensures.crash c.write.ensures.time
+    _ (write_calls g.D.Device core.disk c.write.new.self _ (c.args.out.now.written + length c.args.bytes.now) (passes_once g.D.Device _ _ c.write.ensures.time) c.in-Ok.ensures.counted) c.write.ensures.besides c.write.ensures.crash c.write.ensures.time
     c.in-Ok.ensures.written (λ told. c.requires.whole told (none_of core.state.read_only c.in_default.not-Some)) refl
 
 pub returns-in-Ok-clause-whole : goal.returns-in-Ok-clause-whole
@@ -42,7 +42,7 @@ returns-in-Err-clause-did g c =
     subst (λ (s : Core _). Did g.D.Device core (WritePiece c.args.out.now.number c.args.out.now.file c.args.bytes.now) (Refused Fault) s) (sym c.stop_writing.ensures)
     (did_piece_fail g.D.Device g.met.D.Device.only_now core c.write.new.self c.args.out.now.number c.args.out.now.file c.args.out.now.written c.args.bytes.now (none_of core.state.read_only c.in_default.not-Some)
     (job_file core.state known.0 c.args.out.now known.1.state.has known.2)
-    _ (write_calls g.D.Device core.disk c.write.new.self _ (c.args.out.now.written + length c.args.bytes.now) c.write.ensures.time.later c.in-Err.ensures.counted) c.write.ensures.besides c.write.ensures.crash c.write.ensures.time
+    _ (write_calls g.D.Device core.disk c.write.new.self _ (c.args.out.now.written + length c.args.bytes.now) (passes_once g.D.Device _ _ c.write.ensures.time) c.in-Err.ensures.counted) c.write.ensures.besides c.write.ensures.crash c.write.ensures.time
     (g.D.Device.faults c.write.new.self) refl refl)
 
 pub returns-in-Some-clause-refused : goal.returns-in-Some-clause-refused

@@ -1,0 +1,8 @@
+//! Tests of clients on threads over one store. They run what the clauses of `client_scripts` say nothing of: that the threads come to an
+//! end, and what was answered.
+#![tactic(auto)]
+
+#[cfg(test)]
+mod clients;
+#[cfg(test)]
+mod spans;
