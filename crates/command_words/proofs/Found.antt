@@ -12,7 +12,7 @@ use Rattle.clap.specs.declared.parser.matches.SubCommand.{SubCommand}
 use Rattle.clap.proofs.WalkLemmas.{first_value-rows}
 use Rattle.command_words.specs.Spelling.{IsIngest, IsSession, found_value}
 use Rattle.command_words.specs.Table.{words_app}
-use Rattle.command_words.proofs.Whole.{IsBareTrace, Read, drill, ingest, read_from, search, session, trace}
+use Rattle.command_words.proofs.Whole.{IsBareTrace, Read, drill, ingest, read_from, search, serve, session, trace}
 
 -- The matches are those of a search that the words name.
 pub record FindsSearch (words : List Text) (found : Found) : Type 0 where
@@ -27,6 +27,12 @@ pub record FindsDrill (words : List Text) (found : Found) : Type 0 where
   pub values : (name : Text) → found_value words name ≡ first_value found name
   pub name : option_map (λ p. p.0) (subcommand_of words_app words) ≡ Some (codes "drill")
 
+-- The matches are those of words that serve clients.
+pub record FindsServe (words : List Text) (found : Found) : Type 0 where
+  pub has_clients : is_some (first_value found (codes "clients")) ≡ true
+  pub values : (name : Text) → found_value words name ≡ first_value found name
+  pub name : option_map (λ p. p.0) (subcommand_of words_app words) ≡ Some (codes "serve")
+
 -- What the subcommand that a parse gives, with its matches, tells of the words.
 abbrev pub Tells : List Text → Option (Bor Text × Bor ArgMatches) → Type 0
 Tells words None = ⊥
@@ -34,7 +40,8 @@ Tells words (Some p) = ((p.0.now ≡ codes "session") × IsSession words)
     ⊎ (((p.0.now ≡ codes "trace") × ((id : List ℕ) × (first_value (found_of p.1.now) (codes "id") ≡ Some id) × IsBareTrace id words))
     ⊎ (((p.0.now ≡ codes "search") × FindsSearch words (found_of p.1.now))
     ⊎ (((p.0.now ≡ codes "ingest") × IsIngest words)
-    ⊎ ((p.0.now ≡ codes "drill") × FindsDrill words (found_of p.1.now)))))
+    ⊎ (((p.0.now ≡ codes "drill") × FindsDrill words (found_of p.1.now))
+    ⊎ ((p.0.now ≡ codes "serve") × FindsServe words (found_of p.1.now))))))
 
 name-rows : {Z : Type 0} (o : Option (Box SubCommand Z)) → option_map (λ b. (out-SubCommand (box_value b)).name.now) o ≡ option_map (λ p. p.0) (subcommand_rows o)
 name-rows None = refl
@@ -48,6 +55,7 @@ tells_from words None None name rows link (ingest is asked) = cc
 tells_from words None None name rows link (trace id is gives asked) = cc
 tells_from words None None name rows link (search is query) = cc
 tells_from words None None name rows link (drill is seed traces) = cc
+tells_from words None None name rows link (serve is clients begins) = cc
 tells_from words None (Some q) name rows link read = cc
 tells_from words (Some p) None name rows link read = cc
 tells_from words (Some p) (Some q) name rows link (session is asked) = inl (cc, asked)
@@ -69,7 +77,7 @@ tells_from words (Some p) (Some q) name rows link (search is query) =
 tells_from words (Some p) (Some q) name rows link (drill is seed traces) =
     let same : rows_of (found_of p.1.now) ≡ q.1 = cc in
     let value = λ (n : Text). first_value-rows (found_of p.1.now) n ∙ ap (first_of n) same in
-    inr (inr (inr (inr (
+    inr (inr (inr (inr (inl (
       cc,
       record {
         has_seed = ap is_some (value (codes "seed")) ∙ seed;
@@ -77,7 +85,18 @@ tells_from words (Some p) (Some q) name rows link (drill is seed traces) =
         values = λ n. ap (λ (o : Option (Text × List Row)). option_and_then (λ p. first_of n p.1) o) (sym link) ∙ sym (value n);
         name = ap (option_map (λ p. p.0)) (sym link) ∙ is;
       },
-    ))))
+    )))))
+tells_from words (Some p) (Some q) name rows link (serve is clients begins) =
+    let same : rows_of (found_of p.1.now) ≡ q.1 = cc in
+    let value = λ (n : Text). first_value-rows (found_of p.1.now) n ∙ ap (first_of n) same in
+    inr (inr (inr (inr (inr (
+      cc,
+      record {
+        has_clients = ap is_some (value (codes "clients")) ∙ clients;
+        values = λ n. ap (λ (o : Option (Text × List Row)). option_and_then (λ p. first_of n p.1) o) (sym link) ∙ sym (value n);
+        name = ap (option_map (λ p. p.0)) (sym link) ∙ is;
+      },
+    )))))
 
 tells : (words : List Text) (m : ArgMatches) (r : Option (Bor Text × Bor ArgMatches)) → option_map (λ p. p.0.now) r ≡ subcommand_name_of m
     → option_map (λ p. rows_of (found_of p.1.now)) r ≡ option_map (λ p. p.1) (subcommand_rows_of m) → subcommand_rows_of m ≡ subcommand_of words_app words → Read words (subcommand_rows_of m) → Tells words r
@@ -97,19 +116,27 @@ ingest_is_not_search is = let bad : false ≡ true = (bytes_decides (codes "inge
 pub trace_is_not_drill : codes "trace" ≡ codes "drill" → ⊥
 trace_is_not_drill is = let bad : false ≡ true = (bytes_decides (codes "trace") (codes "drill")).1 is in cc
 
+pub trace_is_not_serve : codes "trace" ≡ codes "serve" → ⊥
+trace_is_not_serve is = let bad : false ≡ true = (bytes_decides (codes "trace") (codes "serve")).1 is in cc
+
+pub drill_is_not_serve : codes "drill" ≡ codes "serve" → ⊥
+drill_is_not_serve is = let bad : false ≡ true = (bytes_decides (codes "drill") (codes "serve")).1 is in cc
+
 pub tells_session : (words : List Text) (p : Bor Text × Bor ArgMatches) → Tells words (Some p) → p.0.now ≡ codes "session" → IsSession words
 tells_session words p (inl told) is = told.1
 tells_session words p (inr (inl told)) is = let told_is = told.0 in let bad : ⊥ = cc in absurd bad
 tells_session words p (inr (inr (inl told))) is = let told_is = told.0 in let bad : ⊥ = cc in absurd bad
 tells_session words p (inr (inr (inr (inl told)))) is = let told_is = told.0 in let bad : ⊥ = cc in absurd bad
-tells_session words p (inr (inr (inr (inr told)))) is = let told_is = told.0 in let bad : ⊥ = cc in absurd bad
+tells_session words p (inr (inr (inr (inr (inl told))))) is = let told_is = told.0 in let bad : ⊥ = cc in absurd bad
+tells_session words p (inr (inr (inr (inr (inr told))))) is = let told_is = told.0 in let bad : ⊥ = cc in absurd bad
 
 pub tells_ingest : (words : List Text) (p : Bor Text × Bor ArgMatches) → Tells words (Some p) → p.0.now ≡ codes "ingest" → IsIngest words
 tells_ingest words p (inl told) is = let told_is = told.0 in let bad : ⊥ = cc in absurd bad
 tells_ingest words p (inr (inl told)) is = let told_is = told.0 in let bad : ⊥ = cc in absurd bad
 tells_ingest words p (inr (inr (inl told))) is = absurd (ingest_is_not_search (sym is ∙ told.0))
 tells_ingest words p (inr (inr (inr (inl told)))) is = told.1
-tells_ingest words p (inr (inr (inr (inr told)))) is = let told_is = told.0 in let bad : ⊥ = cc in absurd bad
+tells_ingest words p (inr (inr (inr (inr (inl told))))) is = let told_is = told.0 in let bad : ⊥ = cc in absurd bad
+tells_ingest words p (inr (inr (inr (inr (inr told))))) is = let told_is = told.0 in let bad : ⊥ = cc in absurd bad
 
 pub tells_trace : (words : List Text) (p : Bor Text × Bor ArgMatches) → Tells words (Some p) → p.0.now ≡ codes "trace"
     → (id : List ℕ) × (first_value (found_of p.1.now) (codes "id") ≡ Some id) × IsBareTrace id words
@@ -117,26 +144,38 @@ tells_trace words p (inl told) is = let told_is = told.0 in let bad : ⊥ = cc i
 tells_trace words p (inr (inl told)) is = told.1
 tells_trace words p (inr (inr (inl told))) is = let told_is = told.0 in let bad : ⊥ = cc in absurd bad
 tells_trace words p (inr (inr (inr (inl told)))) is = let told_is = told.0 in let bad : ⊥ = cc in absurd bad
-tells_trace words p (inr (inr (inr (inr told)))) is = absurd (trace_is_not_drill (sym is ∙ told.0))
+tells_trace words p (inr (inr (inr (inr (inl told))))) is = absurd (trace_is_not_drill (sym is ∙ told.0))
+tells_trace words p (inr (inr (inr (inr (inr told))))) is = absurd (trace_is_not_serve (sym is ∙ told.0))
 
 pub tells_search : (words : List Text) (p : Bor Text × Bor ArgMatches) → Tells words (Some p) → p.0.now ≡ codes "search" → FindsSearch words (found_of p.1.now)
 tells_search words p (inl told) is = let told_is = told.0 in let bad : ⊥ = cc in absurd bad
 tells_search words p (inr (inl told)) is = let told_is = told.0 in let bad : ⊥ = cc in absurd bad
 tells_search words p (inr (inr (inl told))) is = told.1
 tells_search words p (inr (inr (inr (inl told)))) is = absurd (ingest_is_not_search (sym told.0 ∙ is))
-tells_search words p (inr (inr (inr (inr told)))) is = let told_is = told.0 in let bad : ⊥ = cc in absurd bad
+tells_search words p (inr (inr (inr (inr (inl told))))) is = let told_is = told.0 in let bad : ⊥ = cc in absurd bad
+tells_search words p (inr (inr (inr (inr (inr told))))) is = let told_is = told.0 in let bad : ⊥ = cc in absurd bad
 
 pub tells_drill : (words : List Text) (p : Bor Text × Bor ArgMatches) → Tells words (Some p) → p.0.now ≡ codes "drill" → FindsDrill words (found_of p.1.now)
 tells_drill words p (inl told) is = let told_is = told.0 in let bad : ⊥ = cc in absurd bad
 tells_drill words p (inr (inl told)) is = absurd (trace_is_not_drill (sym told.0 ∙ is))
 tells_drill words p (inr (inr (inl told))) is = let told_is = told.0 in let bad : ⊥ = cc in absurd bad
 tells_drill words p (inr (inr (inr (inl told)))) is = let told_is = told.0 in let bad : ⊥ = cc in absurd bad
-tells_drill words p (inr (inr (inr (inr told)))) is = told.1
+tells_drill words p (inr (inr (inr (inr (inl told))))) is = told.1
+tells_drill words p (inr (inr (inr (inr (inr told))))) is = absurd (drill_is_not_serve (sym is ∙ told.0))
+
+pub tells_serve : (words : List Text) (p : Bor Text × Bor ArgMatches) → Tells words (Some p) → p.0.now ≡ codes "serve" → FindsServe words (found_of p.1.now)
+tells_serve words p (inl told) is = let told_is = told.0 in let bad : ⊥ = cc in absurd bad
+tells_serve words p (inr (inl told)) is = absurd (trace_is_not_serve (sym told.0 ∙ is))
+tells_serve words p (inr (inr (inl told))) is = let told_is = told.0 in let bad : ⊥ = cc in absurd bad
+tells_serve words p (inr (inr (inr (inl told)))) is = let told_is = told.0 in let bad : ⊥ = cc in absurd bad
+tells_serve words p (inr (inr (inr (inr (inl told))))) is = absurd (drill_is_not_serve (sym told.0 ∙ is))
+tells_serve words p (inr (inr (inr (inr (inr told))))) is = told.1
 
 pub tells_one : (words : List Text) (p : Bor Text × Bor ArgMatches) → Tells words (Some p) → (p.0.now ≡ codes "session" → ⊥) → (p.0.now ≡ codes "ingest" → ⊥)
-    → (p.0.now ≡ codes "drill" → ⊥) → (p.0.now ≡ codes "trace" → ⊥) → (p.0.now ≡ codes "search" → ⊥) → ⊥
-tells_one words p (inl told) session_not ingest_not drill_not trace_not search_not = session_not told.0
-tells_one words p (inr (inl told)) session_not ingest_not drill_not trace_not search_not = trace_not told.0
-tells_one words p (inr (inr (inl told))) session_not ingest_not drill_not trace_not search_not = search_not told.0
-tells_one words p (inr (inr (inr (inl told)))) session_not ingest_not drill_not trace_not search_not = ingest_not told.0
-tells_one words p (inr (inr (inr (inr told)))) session_not ingest_not drill_not trace_not search_not = drill_not told.0
+    → (p.0.now ≡ codes "drill" → ⊥) → (p.0.now ≡ codes "serve" → ⊥) → (p.0.now ≡ codes "trace" → ⊥) → (p.0.now ≡ codes "search" → ⊥) → ⊥
+tells_one words p (inl told) session_not ingest_not drill_not serve_not trace_not search_not = session_not told.0
+tells_one words p (inr (inl told)) session_not ingest_not drill_not serve_not trace_not search_not = trace_not told.0
+tells_one words p (inr (inr (inl told))) session_not ingest_not drill_not serve_not trace_not search_not = search_not told.0
+tells_one words p (inr (inr (inr (inl told)))) session_not ingest_not drill_not serve_not trace_not search_not = ingest_not told.0
+tells_one words p (inr (inr (inr (inr (inl told))))) session_not ingest_not drill_not serve_not trace_not search_not = drill_not told.0
+tells_one words p (inr (inr (inr (inr (inr told))))) session_not ingest_not drill_not serve_not trace_not search_not = serve_not told.0

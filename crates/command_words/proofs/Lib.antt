@@ -5,6 +5,9 @@ pub mod Spelled
 pub mod Turns
 pub mod Full
 pub mod Whole
+pub mod ServeLeaf
+pub mod ServeLemmas
 pub mod Rows
 pub mod Taken
 pub mod TakenDrill
+pub mod TakenServe

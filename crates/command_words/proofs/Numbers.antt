@@ -112,15 +112,15 @@ seed_fits = lit< tt
 pub traces_fit : most_traces < 2 ^ 64
 traces_fit = lit< tt
 
--- Words whose subcommand isn't `drill` have no numbers that are looked at.
+-- Words whose subcommand is neither `drill` nor `serve` have no numbers that are looked at.
 pub only_clap : (words : List Text) (name : Text) → option_map (λ p. p.0) (subcommand_of words_app words) ≡ Some name → bytes_eq name (codes "drill") ≡ false
-    → fault_of words_app words ≡ [] → word_faults words ≡ []
+    → bytes_eq name (codes "serve") ≡ false → fault_of words_app words ≡ [] → word_faults words ≡ []
 unfolding word_faults
-only_clap words name named other clean = rw clean (go (subcommand_of words_app words) named)
+only_clap words name named other another clean = rw clean (go (subcommand_of words_app words) named)
   where
     go : (o : Option (Text × List Row)) → option_map (λ p. p.0) o ≡ Some name → numbers_fault o ≡ []
     go None is = refl
-    go (Some p) is = let same : p.0 ≡ name = cc in rw (same, other) refl
+    go (Some p) is = let same : p.0 ≡ name = cc in rw (same, other, another) refl
 
 -- Words of a drill whose numbers are in their ranges.
 pub drill_only_clap : (words : List Text) (seed traces : ℕ) → option_map (λ p. p.0) (subcommand_of words_app words) ≡ Some (codes "drill")

@@ -39,7 +39,7 @@ digit_is_plain (b ∷ c ∷ cs) begins = other b begins
     other : (b : ℕ) → 48 ≤ b → (b == 45) ≡ false
     other b digit = grind arith
 
-number_is_plain : (n : ℕ) → n < 2 ^ 64 → IsNoFlag (decimal n)
+pub number_is_plain : (n : ℕ) → n < 2 ^ 64 → IsNoFlag (decimal n)
 number_is_plain n fits = no_flag (decimal n) (digit_is_plain (decimal n) (decimal_begins n fits))
 
 -- ---- the words after `drill`

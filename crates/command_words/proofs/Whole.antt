@@ -9,15 +9,16 @@ use Rattle.clap.specs.Simple.{App, built, entered, names_of, subcommand_of, with
 use Rattle.clap.specs.declared.error.kind.ErrorKind.{ErrorKind}
 use Rattle.clap.specs.declared.error.kind.ErrorKind.TheVariants as kind
 use Rattle.clap.specs.Walk.{Row, Text, Walk, answers_to, finished, first_of, nothing_held, settled, walk, walk_from, walked}
-use Rattle.command_words.specs.Spelling.{IsIngest, IsSession, IsTrace}
-use Rattle.command_words.specs.Table.{bare_app, drill_shape, ingest_shape, search_shape, session_shape, trace_shape, words_app}
+use Rattle.command_words.specs.Spelling.{IsIngest, IsSession, IsTrace, begins_to_serve}
+use Rattle.command_words.specs.Table.{bare_app, drill_shape, ingest_shape, search_shape, serve_shape, session_shape, trace_shape, words_app}
 use Rattle.command_words.proofs.Leaves.{IsIdRest, bare_is_no_flag, drill_rest, ingest_rest, search_rest, session_rest, trace_rest}
+use Rattle.command_words.proofs.ServeLeaf.{serve_rest}
 use Rattle.command_words.proofs.Turns.{HasNoFlags, IsBare, dashes, dashes_text, flag, none_first, placed, standing, stop_more, stray_is_fault, trailing_none, turned, walk_next}
 
 -- The command as it is built.
 abbrev pub whole : App
-whole = built (with_subcommand (with_subcommand (with_subcommand (with_subcommand (with_subcommand bare_app
-    session_shape) ingest_shape) trace_shape) search_shape) drill_shape)
+whole = built (with_subcommand (with_subcommand (with_subcommand (with_subcommand (with_subcommand (with_subcommand bare_app
+    session_shape) ingest_shape) trace_shape) search_shape) drill_shape) serve_shape)
 
 -- As `IsTrace`, where the id is bare rather than no flag.
 abbrev pub IsBareTrace : Text → List Text → Type 0
@@ -40,6 +41,8 @@ pub data Read (words : List Text) (found : Option (Text × List Row)) : Type 0 w
   drill : option_map (λ p. p.0) found ≡ Some (codes "drill")
       → is_some (option_and_then (λ p. first_of (codes "seed") p.1) found) ≡ true
       → is_some (option_and_then (λ p. first_of (codes "traces") p.1) found) ≡ true → Read words found
+  serve : option_map (λ p. p.0) found ≡ Some (codes "serve")
+      → is_some (option_and_then (λ p. first_of (codes "clients") p.1) found) ≡ true → begins_to_serve words ≡ true → Read words found
 
 -- What is at fault after the first step, by where the walk over the words ends.
 abbrev pub end_fault : Walk → Kinds
@@ -142,6 +145,24 @@ drill_first w rest same h =
     (ap (λ (o : Option (Text × List Row)). is_some (option_and_then (λ p. first_of (codes "seed") p.1) o)) found ∙ given.0)
     (ap (λ (o : Option (Text × List Row)). is_some (option_and_then (λ p. first_of (codes "traces") p.1) o)) found ∙ given.1)
 
+-- A first word `serve` is the subcommand's name.
+pub serve_met : (rest : List Text) → option_map (λ p. p.0) (subcommand_of words_app (codes "serve" ∷ rest)) ≡ Some (codes "serve")
+unfolding walked
+serve_met rest = ap (option_map (λ p. p.0)) (found_at (codes "serve" ∷ rest) _ (stops_at (codes "serve") rest (codes "serve") refl))
+
+serve_first : (w : Text) (rest : List Text) → bytes_eq (codes "serve") w ≡ true → fault_of words_app (w ∷ rest) ≡ []
+    → Read (w ∷ rest) (subcommand_of words_app (w ∷ rest))
+unfolding walked
+serve_first w rest same h =
+    let is : codes "serve" ≡ w = (bytes_decides (codes "serve") w).0 same in
+    let end = stops_at w rest (codes "serve")
+    (subst (λ (x : Text). walked [] (names_of whole) start x ≡ record start { stopped = Some (codes "serve", []) }) is refl) in
+    let clean = (none_first _ _ (ends_clean (w ∷ rest) _ end h).1).0 in
+    let found = found_at (w ∷ rest) _ end in
+    serve (ap (option_map (λ p. p.0)) found)
+    (ap (λ (o : Option (Text × List Row)). is_some (option_and_then (λ p. first_of (codes "clients") p.1) o)) found ∙ serve_rest rest clean)
+    ((bytes_decides w (codes "serve")).1 (sym is))
+
 some_kind : (k : ErrorKind) → k ∷ [] ≡ [] → ⊥
 some_kind k h = cc
 
@@ -153,9 +174,9 @@ none_met is_trailing h = some_kind kind.MissingSubcommand h
 -- No other first word is without fault.
 other_first : (w : Text) (rest : List Text) → bytes_eq (codes "session") w ≡ false → bytes_eq (codes "ingest") w ≡ false
     → bytes_eq (codes "trace") w ≡ false → bytes_eq (codes "search") w ≡ false → bytes_eq (codes "drill") w ≡ false
-    → fault_of words_app (w ∷ rest) ≡ [] → ⊥
-other_first w rest session_not ingest_not trace_not search_not drill_not h =
-    let unmet : find (answers_to w) (names_of whole) ≡ None = rw (session_not, ingest_not, trace_not, search_not, drill_not) refl in
+    → bytes_eq (codes "serve") w ≡ false → fault_of words_app (w ∷ rest) ≡ [] → ⊥
+other_first w rest session_not ingest_not trace_not search_not drill_not serve_not h =
+    let unmet : find (answers_to w) (names_of whole) ≡ None = rw (session_not, ingest_not, trace_not, search_not, drill_not, serve_not) refl in
     let next = walk_next whole.top (names_of whole) start w rest (ends_clean (w ∷ rest) _ refl h).0 in
     elim (turned whole.top (names_of whole) [] None 1 w whole_flags unmet) [
       | dashes is clean after ↦
@@ -174,14 +195,16 @@ pub read_from : (words : List Text) → fault_of words_app words ≡ [] → Read
 read_from [] h = absurd (none_met false (ends_clean [] start refl h).1)
 read_from (w ∷ rest) h =
     go (bytes_eq (codes "session") w) refl (bytes_eq (codes "ingest") w) refl (bytes_eq (codes "trace") w) refl (bytes_eq (codes "search") w) refl
-    (bytes_eq (codes "drill") w) refl
+    (bytes_eq (codes "drill") w) refl (bytes_eq (codes "serve") w) refl
   where
     go : (a : Bool) → bytes_eq (codes "session") w ≡ a → (b : Bool) → bytes_eq (codes "ingest") w ≡ b → (c : Bool) → bytes_eq (codes "trace") w ≡ c
-        → (d : Bool) → bytes_eq (codes "search") w ≡ d → (e : Bool) → bytes_eq (codes "drill") w ≡ e → Read (w ∷ rest) (subcommand_of words_app (w ∷ rest))
-    go true is b other c third d fourth e fifth = session_first w rest is h
-    go false not_session true is c third d fourth e fifth = ingest_first w rest is h
-    go false not_session false not_ingest true is d fourth e fifth = trace_first w rest is h
-    go false not_session false not_ingest false not_trace true is e fifth = search_first w rest is h
-    go false not_session false not_ingest false not_trace false not_search true is = drill_first w rest is h
-    go false not_session false not_ingest false not_trace false not_search false not_drill =
-        absurd (other_first w rest not_session not_ingest not_trace not_search not_drill h)
+        → (d : Bool) → bytes_eq (codes "search") w ≡ d → (e : Bool) → bytes_eq (codes "drill") w ≡ e → (f : Bool) → bytes_eq (codes "serve") w ≡ f
+        → Read (w ∷ rest) (subcommand_of words_app (w ∷ rest))
+    go true is b other c third d fourth e fifth f sixth = session_first w rest is h
+    go false not_session true is c third d fourth e fifth f sixth = ingest_first w rest is h
+    go false not_session false not_ingest true is d fourth e fifth f sixth = trace_first w rest is h
+    go false not_session false not_ingest false not_trace true is e fifth f sixth = search_first w rest is h
+    go false not_session false not_ingest false not_trace false not_search true is f sixth = drill_first w rest is h
+    go false not_session false not_ingest false not_trace false not_search false not_drill true is = serve_first w rest is h
+    go false not_session false not_ingest false not_trace false not_search false not_drill false not_serve =
+        absurd (other_first w rest not_session not_ingest not_trace not_search not_drill not_serve h)

@@ -1,5 +1,6 @@
 -- The words that ask each thing.
 use Rattle.std.specs.Prelude.{◌≡◌, ◌⊎◌, ◌==◌, ℕ, Bool, false, List, [], ◌∷◌, ◌++◌, Option, Some, None, IfSome, option_map, option_and_then, codes}
+use Rattle.std.specs.Str.{bytes_eq}
 use Rattle.clap.specs.Words.{first_of, first_value, subcommand_of}
 use Rattle.clap.specs.declared.parser.matches.Found.{Found}
 use Rattle.command_words.specs.Table.{words_app}
@@ -106,6 +107,24 @@ pub record IsDrill (seed traces : List ℕ) (words : List (List ℕ)) : Type 0 w
 -- The words of a drill as the documents spell them, with these texts as its numbers.
 abbrev pub drill_words : List ℕ → List ℕ → List (List ℕ)
 drill_words seed traces = codes "drill" ∷ codes "--seed" ∷ seed ∷ codes "--traces" ∷ traces ∷ []
+
+-- ---- clients
+
+-- By `clap`'s definition the words name `serve` and give these texts as how many clients there are and, if it is told, how often the
+-- store is kept up. The two options may stand in either order and in any form that `clap` takes.
+pub record IsServe (clients : List ℕ) (rounds : Option (List ℕ)) (words : List (List ℕ)) : Type 0 where
+  pub name : option_map (λ p. p.0) (subcommand_of words_app words) ≡ Some (codes "serve")
+  pub clients_are : found_value words (codes "clients") ≡ Some clients
+  pub rounds_are : found_value words (codes "rounds") ≡ rounds
+
+-- The words that serve clients as the documents spell them, with these texts as their numbers.
+abbrev pub serve_words : List ℕ → Option (List ℕ) → List (List ℕ)
+serve_words clients rounds = codes "serve" ∷ codes "--clients" ∷ clients ∷ option_words (codes "rounds") rounds
+
+-- The first word is `serve`.
+abbrev pub begins_to_serve : List (List ℕ) → Bool
+begins_to_serve [] = false
+begins_to_serve (word ∷ words) = bytes_eq word (codes "serve")
 
 -- ---- what is found
 

@@ -42,6 +42,11 @@ abbrev pub drill_shape : Shape
 drill_shape =
     (with_rule (with_rule (new_app (codes "drill")) (wanted_option_rule (codes "seed"))) (wanted_option_rule (codes "traces"))).top
 
+-- `serve` with its two options, of which the second may be left out.
+abbrev pub serve_shape : Shape
+serve_shape =
+    (with_rule (with_rule (new_app (codes "serve")) (wanted_option_rule (codes "clients"))) (option_rule (codes "rounds"))).top
+
 -- The command without its subcommands: the words begin with the first, a subcommand is wanted, and there is no help.
 abbrev pub bare_app : App
 bare_app = record (new_app (codes "vurnda")) {
@@ -56,5 +61,5 @@ bare_app = record (new_app (codes "vurnda")) {
 -- The whole command.
 unfoldable pub words_app : App
 words_app =
-    with_subcommand (with_subcommand (with_subcommand (with_subcommand (with_subcommand bare_app
-    session_shape) ingest_shape) trace_shape) search_shape) drill_shape
+    with_subcommand (with_subcommand (with_subcommand (with_subcommand (with_subcommand (with_subcommand bare_app
+    session_shape) ingest_shape) trace_shape) search_shape) drill_shape) serve_shape

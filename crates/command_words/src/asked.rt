@@ -7,6 +7,13 @@ use thiserror::Error;
 pub enum Asked {
     /// Answer each request line of the input.
     Session,
+    /// Answer what several clients ask at once, by the lines of the input.
+    Serve {
+        /// How many clients there are: from 1 to 16.
+        clients: u32,
+        /// How often each of two more scripts keeps the store up meanwhile: at most 1,000 times.
+        rounds: u32,
+    },
     /// Push each line of the input, and keep the store up.
     Ingest,
     /// Push so many traces that are made from a seed, keep the store up, and search it.

@@ -3,7 +3,7 @@
 ghost use Rattle.std.specs.Prelude.{◌≡◌, IfOk, false};
 ghost use Rattle.clap.specs.Words.{app_of, rule_of, shape_of};
 ghost use Rattle.clap.specs.declared.builder.command.Command.TheViews.{out-Command as fields_of};
-ghost use Rattle.command_words.specs.Table.{bare_app, drill_shape, ingest_shape, option_rule, query_rule, search_shape, session_shape, trace_shape, wanted_option_rule, words_app};
+ghost use Rattle.command_words.specs.Table.{bare_app, drill_shape, ingest_shape, option_rule, query_rule, search_shape, serve_shape, session_shape, trace_shape, wanted_option_rule, words_app};
 
 use clap::{Arg, ArgAction, Command};
 use std::alloc::{AllocError, Global};
@@ -17,7 +17,8 @@ pub(crate) fn whole_command<'a>(alloc: Global) -> Result<Command<'a>, AllocError
         .subcommand(ingest_command(alloc))?
         .subcommand(trace_command(alloc)?)?
         .subcommand(search_command(alloc)?)?
-        .subcommand(drill_command(alloc)?)
+        .subcommand(drill_command(alloc)?)?
+        .subcommand(serve_command(alloc)?)
 }
 
 // The command without subcommands. It wants one, has no help and no version, and reads its words from the first on.
@@ -77,6 +78,16 @@ fn drill_command<'a>(alloc: Global) -> Result<Command<'a>, AllocError>
     Command::new(alloc, "drill")
         .arg(wanted_option(alloc, "seed"))?
         .arg(wanted_option(alloc, "traces"))
+}
+
+// `serve` takes two options, the first of which is wanted.
+fn serve_command<'a>(alloc: Global) -> Result<Command<'a>, AllocError>
+    ensures shape { IfOk result (λ c. shape_of c ≡ serve_shape) }
+    ensures local { IfOk result (λ c. (fields_of c).has_globals ≡ false) }
+{
+    Command::new(alloc, "serve")
+        .arg(wanted_option(alloc, "clients"))?
+        .arg(option(alloc, "rounds"))
 }
 
 // An option with one value.

@@ -4,11 +4,11 @@
 //! The function has an empty body: its contract is the statement, and its proof stands in `proofs/laws/`. Nothing
 //! calls it; proofs of `session_meaning` and `trace_shell` cite the lemmas, of `proofs/Spelled.antt`.
 
-ghost use Rattle.std.specs.Prelude.{◌≡◌, ◌≤◌, [], All, List, decimal, ℕ};
+ghost use Rattle.std.specs.Prelude.{◌≡◌, ◌≤◌, [], All, List, Option, decimal, true, ℕ};
 ghost use Rattle.std.specs.Str.{IsUtf8};
-ghost use Rattle.command_words.specs.Commands.{Alone, Command, Drill, Spells};
-ghost use Rattle.command_words.specs.Numbers.{fewest_traces, greatest_seed, most_traces, word_faults};
-ghost use Rattle.command_words.specs.Spelling.{Given, IsTaken, drill_words, search_line};
+ghost use Rattle.command_words.specs.Commands.{Alone, Command, Drill, Serve, Spells};
+ghost use Rattle.command_words.specs.Numbers.{IsCount, fewest_clients, fewest_traces, greatest_seed, most_clients, most_rounds, most_traces, word_faults};
+ghost use Rattle.command_words.specs.Spelling.{Given, IsTaken, begins_to_serve, drill_words, search_line, serve_words};
 
 /// Laws of what words ask. Words have no fault exactly where they ask something: none by `clap`'s own definition, and no
 /// number out of its range.
@@ -29,4 +29,14 @@ pub fn what_words_spell()
     ensures drills { (seed traces : ℕ) → seed ≤ greatest_seed → fewest_traces ≤ traces
         → traces ≤ most_traces
         → Spells (drill_words (decimal seed) (decimal traces)) (Drill seed traces) }
+    // And those that serve clients.
+    ensures serves { (clients rounds : ℕ) (told : Option (List ℕ)) → IsCount told rounds
+        → fewest_clients ≤ clients → clients ≤ most_clients → rounds ≤ most_rounds
+        → Spells (serve_words (decimal clients) told) (Serve clients rounds) }
+    // Words that ask to serve clients begin with `serve`.
+    ensures begins { (words : List (List ℕ)) (clients rounds : ℕ)
+        → Spells words (Serve clients rounds) → begins_to_serve words ≡ true }
+    // And words that begin so ask nothing else.
+    ensures only { (words : List (List ℕ)) (c : Command) → begins_to_serve words ≡ true
+        → Spells words c → (clients rounds : ℕ) × (c ≡ Serve clients rounds) }
 {}

@@ -2,7 +2,8 @@
 //! crate `clap` with a subcommand for each thing that the program does.
 //!
 //! `read` has the entry point, `read_words`, which `trace_shell` calls. `command` builds the command, `asked` is what
-//! words ask, `line` makes the request line of a look-up or a search, and `number` reads the numbers of a drill.
+//! words ask, `line` makes the request line of a look-up or a search, `number` reads the numbers of a drill, and `serve`
+//! those of a run that serves several clients.
 #![tactic(auto)]
 
 mod asked;
@@ -11,7 +12,9 @@ mod laws;
 mod line;
 mod number;
 mod read;
+mod serve;
 
 pub use asked::{Asked, WordsError};
 pub use laws::what_words_spell;
 pub use read::read_words;
+pub use serve::asks_to_serve;

@@ -14,6 +14,7 @@ use crate::asked::{Asked, WordsError};
 use crate::command::whole_command;
 use crate::line::{search_line, trace_line};
 use crate::number::number_given;
+use crate::serve::asked_serve;
 use clap::error::ErrorKind;
 use clap::{ArgMatches, Error};
 use std::alloc::Global;
@@ -38,6 +39,7 @@ pub fn read_words(alloc: Global, words: &[String]) -> Result<Asked, WordsError>
         "session" => Ok(Asked::Session),
         "ingest" => Ok(Asked::Ingest),
         "drill" => asked_drill(alloc, given),
+        "serve" => asked_serve(alloc, given),
         "trace" => asked_trace(alloc, id_of(given)),
         "search" => asked_search(alloc, given),
         _ => unreachable!(),

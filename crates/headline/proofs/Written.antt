@@ -3,7 +3,7 @@ use Rattle.std.proofs.Common.{Bool, false, ◌≡◌, inl, inr, ◌∙◌, ℕ, 
 use Rattle.std.specs.Prelude.{IfSome}
 use Rattle.std.proofs.lemmas.List.{take_all}
 use Rattle.std.specs.Io.KnownBytes.{Appends}
-use Rattle.command_words.specs.Commands.{Alone, Command, Drill as drill, Ingest as ingest, Session as session, Spells}
+use Rattle.command_words.specs.Commands.{Alone, Command, Drill as drill, Ingest as ingest, Serve as serve, Session as session, Spells}
 use Rattle.io_edges.specs.Devices.{AppendsPrefix}
 use Rattle.session_text.specs.declared.reply.Reply.{Reply}
 use Rattle.session_text.specs.Replies.{reply_text}
@@ -133,6 +133,7 @@ module _ (told : Bool) (o : Outcome) (old new : Edges) where
   does_write ingest (text, before, left, taken) does =
       let did = as_ingested text before left taken does in
       appends before (reply_texts o.replies) old.taken new.taken taken (ends_front o.ending text did.later new.left before o.replies new.taken did.ends)
+  does_write (serve clients rounds) tells does = absurd does
   does_write (drill seed traces) (before, taken) does = elim does.came [
     | inl all ↦ drill_front o.ending o.replies old.taken new.taken all.1
     | inr halt ↦ appends_none (drill_text o.replies) old.taken new.taken halt.2

@@ -3,7 +3,7 @@ use Rattle.std.proofs.Common.{◌≡◌, ◌⊎◌, inl, inr, ◌∙◌, ℕ, �
 use Rattle.std.specs.Prelude.{IfSome}
 use Rattle.std.specs.List.{list_any}
 use Rattle.clap.specs.Words.{Kinds}
-use Rattle.command_words.specs.Commands.{Alone, Command, Drill as drill, Ingest as ingest, Session as session, Spells}
+use Rattle.command_words.specs.Commands.{Alone, Command, Drill as drill, Ingest as ingest, Serve as serve, Session as session, Spells}
 use Rattle.command_words.proofs.Spelled.{spelled_clean}
 use Rattle.disk_model.specs.Images.{Image}
 use Rattle.disk_model.proofs.CallRuns.{raised_rose}
@@ -26,13 +26,13 @@ use Rattle.session_meaning.proofs.Acts.{asks_session}
 use Rattle.session_meaning.proofs.Room.{replies_plain}
 
 -- As many bytes as were taken are in the text.
-taken_within : (text : List ℕ) (left : Option (List ℕ)) (taken : ℕ) → TakesBytes (Some text) left 0 taken → taken ≤ length text
+pub taken_within : (text : List ℕ) (left : Option (List ℕ)) (taken : ℕ) → TakesBytes (Some text) left 0 taken → taken ≤ length text
 taken_within text None taken took = absurd took.1
 taken_within text (Some xs) taken took =
     let sizes : length text ≡ length took.0 + length xs = ap length took.1 ∙ length-append took.0 xs in
     omega (arith, sizes, took.2)
 
-by_ending : (e : Ending) → (e ≡ BadWords → ⊥) → (e ≡ WriteFault → ⊥) → (e ≡ ReadFault → ⊥) → (e ≡ NotOpened → ⊥) → ((file at : ℕ) → e ≡ NotStore file at → ⊥) → (e ≡ Spent → ⊥) → ComesToItsEnd e
+pub by_ending : (e : Ending) → (e ≡ BadWords → ⊥) → (e ≡ WriteFault → ⊥) → (e ≡ ReadFault → ⊥) → (e ≡ NotOpened → ⊥) → ((file at : ℕ) → e ≡ NotStore file at → ⊥) → (e ≡ Spent → ⊥) → ComesToItsEnd e
 by_ending Answered b w r n x s = inl refl
 by_ending Starved b w r n x s = inr (inl refl)
 by_ending Refused b w r n x s = inr (inr refl)
@@ -88,6 +88,7 @@ module _ (sure : Bool) (words : List (List ℕ)) (o : Outcome) (old new : Edges)
   pub run_ends : (c : Command) → Spells words c → GoesWell c old new → ComesToItsEnd o.ending
   run_ends session s well = source_ends session s well
   run_ends ingest s well = source_ends ingest s well
+  run_ends (serve clients rounds) s well = source_ends (serve clients rounds) s well
   run_ends (drill seed traces) s well =
       by_ending o.ending (not_bad sure words (drill seed traces) o old new s run)
       (λ is. well.1 (caused WriteFault is))
@@ -144,6 +145,7 @@ module _ (sure : Bool) (words : List (List ℕ)) (o : Outcome) (old new : Edges)
       let at_text : IfSome (Some well.3) (λ text. IfSome old.taken (λ b. HasIngested sure text b o old new)) =
       subst (λ (l : Option (List ℕ)). IfSome l (λ text. IfSome old.taken (λ b. HasIngested sure text b o old new))) well.4 does in
       refused_ingest well.3 before (subst (λ (t : Option (List ℕ)). IfSome t (λ b. HasIngested sure well.3 b o old new)) told at_text) e
+  refused_in (serve clients rounds) well before told does e = absurd does
   refused_in (drill seed traces) well before told does e =
       refused_among seed traces o.ending (after_moment old.moments) does.items o.replies o.refused new.moments old.taken new.taken does.came e
   refused_in (Alone line) well before told does e =
@@ -152,6 +154,7 @@ module _ (sure : Bool) (words : List (List ℕ)) (o : Outcome) (old new : Edges)
   store_well : (c : Command) → GoesWell c old new → HasItsStore old new
   store_well session well = well.0
   store_well ingest well = well.0
+  store_well (serve clients rounds) well = well.0
   store_well (drill seed traces) well = well.0
   store_well (Alone line) well = well.0
 

@@ -4,7 +4,7 @@ use Rattle.std.proofs.Common.{◌≡◌, ◌≢◌, inl, inr, ◌∙◌, ℕ, ze
 use Rattle.std.specs.Prelude.{IfSome}
 use Rattle.std.specs.Str.{bytes_eq, is_utf8}
 use Rattle.std.specs.List.{list_any}
-use Rattle.command_words.specs.Commands.{Alone, Command, Drill as drill, Ingest as ingest, Session as session, Spells}
+use Rattle.command_words.specs.Commands.{Alone, Command, Drill as drill, Ingest as ingest, Serve as serve, Session as session, Spells}
 use Rattle.disk_model.specs.Counts.{RoseBy}
 use Rattle.drill_input.specs.Drill.{drill_line}
 use Rattle.io_edges.specs.Lines.{line_limit, lines}
@@ -287,6 +287,7 @@ acts_none sure ingest o old new (text, before, source, sink) did =
     let ran = some_is old.taken before (λ b. HasIngested sure text b o old new) sink (some_is old.left text (λ t. IfSome old.taken (λ b. HasIngested sure t b o old new)) source did) in
     ap (list_any act_blames_disk) ran.acts_are
     ∙ mapped_none ran.items (came_none sure o.ending (lines text) ran.pushed (record { store = o.first; moments = after_moment old.moments }) (record { store = o.last.store; moments = new.moments }) ran.items o.replies ran.asked)
+acts_none sure (serve clients rounds) o old new tells did = absurd did
 acts_none sure (drill seed traces) o old new tells did =
     ap (list_any act_blames_disk) did.acts_are
     ∙ mapped_none did.items (drill_none seed traces o.ending (after_moment old.moments) did.items o.replies o.refused new.moments old.taken new.taken did.came)

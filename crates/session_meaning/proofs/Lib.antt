@@ -36,3 +36,4 @@ mod IngestRounds
 mod DrillLaws
 pub mod IngestParts
 pub mod Following
+mod ServedLaws

@@ -3,7 +3,7 @@ use Rattle.std.proofs.Common.{◌≡◌, inl, inr, ◌∙◌, true, false, ℕ, 
 use Rattle.span_types.specs.Faults.{Rose}
 use Rattle.disk_model.proofs.CallRuns.{raised_rose}
 use Rattle.otlp_spans.specs.declared.read.Reading.{Reading}
-use Rattle.command_words.specs.Commands.{Alone, Command, Drill as drill, Ingest as ingest, Session as session, Spells}
+use Rattle.command_words.specs.Commands.{Alone, Command, Drill as drill, Ingest as ingest, Serve as serve, Session as session, Spells}
 use Rattle.session_text.specs.declared.refusal.Refusal.{Refusal}
 use Rattle.session_text.specs.declared.refusal.Refusal.TheVariants.{DiskFault, Memory, NotStore}
 use Rattle.session_text.specs.declared.reply.Reply.{Reply}
@@ -175,6 +175,7 @@ reopening_without_faults moment before after _ h quiet = absurd h.0
 its_store : (c : Command) (old new : Edges) → GoesWell c old new → HasItsStore old new
 its_store session old new well = well.0
 its_store ingest old new well = well.0
+its_store (serve clients rounds) old new well = well.0
 its_store (drill seed traces) old new well = well.0
 its_store (Alone line) old new well = well.0
 

@@ -37,12 +37,12 @@ AreAsked-line ((c ∷ cs) ∷ lines) told [] refused b bs act more h a = absurd 
 AreAsked-line ((c ∷ cs) ∷ lines) told (i ∷ is) refused b bs act more h a =
     (h.0, h.1 ++ more, ap (λ (ts : List (List ℕ)). ts ++ more) h.2 ∙ append_assoc h.0 h.1 more, h.3, AreAsked-line lines (after_moment told) is h.1 b bs act more h.4 a)
 
-after_empty : (lines : List (List ℕ)) (told : Option (List ℕ)) → after_lines (lines ++ [] ∷ []) told ≡ after_lines lines told
+pub after_empty : (lines : List (List ℕ)) (told : Option (List ℕ)) → after_lines (lines ++ [] ∷ []) told ≡ after_lines lines told
 after_empty [] told = refl
 after_empty ([] ∷ lines) told = after_empty lines told
 after_empty ((b ∷ bs) ∷ lines) told = after_empty lines (after_moment told)
 
-after_line : (lines : List (List ℕ)) (told : Option (List ℕ)) (b : ℕ) (bs : List ℕ) → after_lines (lines ++ (b ∷ bs) ∷ []) told ≡ after_moment (after_lines lines told)
+pub after_line : (lines : List (List ℕ)) (told : Option (List ℕ)) (b : ℕ) (bs : List ℕ) → after_lines (lines ++ (b ∷ bs) ∷ []) told ≡ after_moment (after_lines lines told)
 after_line [] told b bs = refl
 after_line ([] ∷ lines) told b bs = after_line lines told b bs
 after_line ((c ∷ cs) ∷ lines) told b bs = after_line lines (after_moment told) b bs

@@ -17,6 +17,9 @@ pub mod Duties
 pub mod Pushes
 pub mod Causes
 pub mod Answering
+pub mod Serving
 pub mod Runs
 pub mod Stops
+pub mod ServedRuns
 pub mod Progress
+pub mod ServedReplies

@@ -9,7 +9,7 @@ use Rattle.io_edges.specs.Reader.{TakesBytes}
 use Rattle.disk_model.specs.Counts.{Raised}
 use Rattle.disk_model.specs.Images.{Image}
 use Rattle.disk_model.specs.declared.disk.Device.{Ghosts}
-use Rattle.command_words.specs.Commands.{Alone, Command, Drill as drill, Ingest as ingest, Session as session, Spells}
+use Rattle.command_words.specs.Commands.{Alone, Command, Drill as drill, Ingest as ingest, Serve as serve, Session as session, Spells}
 use Rattle.command_words.specs.Numbers.{word_faults}
 use Rattle.session_text.specs.declared.reply.Reply.{Reply}
 use Rattle.session_text.specs.Items.{Item}
@@ -183,8 +183,14 @@ IsPastOpening _ = ⊤
 abbrev pub TakesNothing : Command → Type 0
 TakesNothing session = ⊥
 TakesNothing ingest = ⊥
+TakesNothing (serve clients rounds) = ⊥
 TakesNothing (drill seed traces) = ⊤
 TakesNothing (Alone line) = ⊤
+
+-- The command is for one client.
+abbrev pub IsForOne : Command → Type 0
+IsForOne (serve clients rounds) = ⊥
+IsForOne _ = ⊤
 
 -- The source has no part in the ending.
 abbrev pub NeedsNoSource : Ending → Type 0
@@ -193,10 +199,11 @@ NeedsNoSource Spent = ⊥
 NeedsNoSource _ = ⊤
 
 -- In a store that was opened the command was done, as far as the source and the sink tell their bytes. `told` says that what the
--- blocks of the store hold is told.
+-- blocks of the store hold is told. A run that serves several clients then is no such run: `IsServedRun` says what it is.
 abbrev pub DoesInStore : Bool → Command → Outcome → Edges → Edges → Type 0
 DoesInStore told session o old new = IfSome old.left (λ text. IfSome old.taken (λ before. HasRun text before o old new))
 DoesInStore told ingest o old new = IfSome old.left (λ text. IfSome old.taken (λ before. HasIngested told text before o old new))
+DoesInStore told (serve clients rounds) o old new = ⊥
 DoesInStore told (drill seed traces) o old new = HasDrilled seed traces o old new
 DoesInStore told (Alone line) o old new =
     NeedsNoSource o.ending × IfSome old.taken (λ before. HasAnswered line before o old new)
@@ -211,6 +218,7 @@ Does told c o old new =
 abbrev pub OnlyAsks : Command → List Act → Type 0
 OnlyAsks session acts = ⊤
 OnlyAsks ingest acts = (items : List Item) × (acts ≡ map Ask items)
+OnlyAsks (serve clients rounds) acts = (items : List Item) × (acts ≡ map Ask items)
 OnlyAsks (drill seed traces) acts = (items : List Item) × (acts ≡ map Ask items)
 OnlyAsks (Alone line) acts = (items : List Item) × (acts ≡ map Ask items)
 
@@ -266,6 +274,7 @@ ReadsWell old new =
 abbrev pub TellsAll : Command → Edges → Type 0
 TellsAll session old = (text before : List ℕ) × (old.left ≡ Some text) × (old.taken ≡ Some before)
 TellsAll ingest old = (text before : List ℕ) × (old.left ≡ Some text) × (old.taken ≡ Some before)
+TellsAll (serve clients rounds) old = (text before : List ℕ) × (old.left ≡ Some text) × (old.taken ≡ Some before)
 TellsAll (drill seed traces) old = (before : List ℕ) × (old.taken ≡ Some before)
 TellsAll (Alone line) old = (before : List ℕ) × (old.taken ≡ Some before)
 
@@ -274,6 +283,7 @@ TellsAll (Alone line) old = (before : List ℕ) × (old.taken ≡ Some before)
 abbrev pub GoesWell : Command → Edges → Edges → Type 0
 GoesWell session old new = ReadsWell old new
 GoesWell ingest old new = ReadsWell old new
+GoesWell (serve clients rounds) old new = ReadsWell old new
 GoesWell (drill seed traces) old new = HasItsStore old new × (Rose old.sink_faults new.sink_faults → ⊥)
 GoesWell (Alone line) old new = HasItsStore old new × (Rose old.sink_faults new.sink_faults → ⊥)
 

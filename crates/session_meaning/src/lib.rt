@@ -8,6 +8,7 @@
 
 mod ending;
 mod laws;
+mod serving_laws;
 
 pub use ending::Ending;
 pub use laws::{
@@ -20,4 +21,8 @@ pub use laws::{
     replies_tell_the_history, sessions_keep_the_store, the_next_run_begins_as_listed,
     upkeep_stands_on_the_disk, what_has_room_is_done, what_is_asked_in_between_is_a_session,
     what_is_stored_is_a_base,
+};
+pub use serving_laws::{
+    numbers_are_given_once, one_script_is_a_session, pushes_of_clients_have_their_causes,
+    serving_comes_to_an_end, what_was_seen_counts,
 };

@@ -25,7 +25,7 @@ one_more : (all pushed rest later : List (List ℕ)) (line : List ℕ) → all �
 one_more all pushed rest later line split next = split ∙ ap (λ ls. pushed ++ ls) next ∙ sym (append_assoc pushed (line ∷ []) later)
 
 -- A line was read.
-reads_on : (text : List ℕ) (pushed : List (List ℕ)) (left_old left : Option (List ℕ)) (reader_old reader : Reader) (line : List ℕ) (at : IsReadingAt text pushed left_old reader_old)
+pub reads_on : (text : List ℕ) (pushed : List (List ℕ)) (left_old left : Option (List ℕ)) (reader_old reader : Reader) (line : List ℕ) (at : IsReadingAt text pushed left_old reader_old)
     → IsNextLine at.rest line (IsToRead reader left) → TakesBytes left_old left reader_old.taken reader.taken → IsReadingAt text (pushed ++ line ∷ []) left reader
 reads_on text pushed left_old left reader_old reader line at next took = record {
   front = at.front ++ next.past;

@@ -7,3 +7,9 @@ pub mod IngestLemmas
 pub mod IngestReads
 pub mod IngestEnds
 pub mod DrillLemmas
+pub mod DealingLemmas
+pub mod NumberLemmas
+pub mod UpkeepLemmas
+pub mod WritingLemmas
+pub mod ServedLemmas
+pub mod ServingLemmas

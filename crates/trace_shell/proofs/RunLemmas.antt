@@ -2,7 +2,7 @@
 use Rattle.std.proofs.Common.{Bool, ◌≡◌, ◌≢◌, ◌⊎◌, ◌∙◌, inl, inr, ℕ, List, [], ◌∷◌, Option, Some, None, true, false, IsTrue, arith, if◌then◌else◌, refl, subst, sym}
 use Rattle.std.specs.Prelude.{IfSome}
 use Rattle.clap.specs.Words.{Kinds}
-use Rattle.command_words.specs.Commands.{Alone, Command, Drill as drill, Ingest as ingest, Session as session, Spells}
+use Rattle.command_words.specs.Commands.{Alone, Command, Drill as drill, Ingest as ingest, Serve as serve, Session as session, Spells}
 use Rattle.command_words.specs.Numbers.{word_faults}
 use Rattle.command_words.proofs.Spelled.{spelled_clean, spelled_one}
 use Rattle.disk_model.specs.Counts.{Raised}
@@ -112,6 +112,7 @@ in_store sure ingest o old new (items, acts_are, none, came) =
       no_refused = none;
       ends = w.ends;
     }))
+in_store sure (serve clients rounds) o old new came = absurd came
 in_store sure (drill seed traces) o old new (items, acts_are, left, came) = record { items = items; acts_are = acts_are; left = left; came = came }
 in_store sure (Alone line) o old new (item, reply, acts, replies, own, asked, clock, ends) = (
   own,
@@ -131,6 +132,7 @@ pub only_asks : (sure : Bool) (c : Command) (first : At) (last : Place) (old_lef
     → CameTo sure c first last old_left old_taken told left taken to_tell e acts replies blamed → OnlyAsks c acts
 only_asks sure session first last old_left old_taken told left taken to_tell e acts replies blamed came = tt
 only_asks sure ingest first last old_left old_taken told left taken to_tell e acts replies blamed came = (came.0, came.1)
+only_asks sure (serve clients rounds) first last old_left old_taken told left taken to_tell e acts replies blamed came = absurd came
 only_asks sure (drill seed traces) first last old_left old_taken told left taken to_tell e acts replies blamed came = (came.0, came.1)
 only_asks sure (Alone line) first last old_left old_taken told left taken to_tell e acts replies blamed came = (came.0 ∷ [], came.2)
 
@@ -148,6 +150,7 @@ unopened e = record { ending = e; opened = false; moment = 0; first = nowhere; a
 none_asked : (c : Command) → OnlyAsks c []
 none_asked session = tt
 none_asked ingest = ([], refl)
+none_asked (serve clients rounds) = ([], refl)
 none_asked (drill seed traces) = ([], refl)
 none_asked (Alone line) = ([], refl)
 

@@ -1,7 +1,7 @@
 -- What a run came to in a store that was opened, and what it left of it.
 use Rattle.std.proofs.Common.{Bool, ◌≡◌, inl, inr, ⊎_elim, ℕ, ◌≤◌, List, [], ◌∷◌, map, Option, Some, None, Result, Ok, Err, true, false, IsTrue, refl, sym, ◌∙◌, ap, subst}
 use Rattle.std.specs.Prelude.{IfSome}
-use Rattle.command_words.specs.Commands.{Alone, Command, Drill as drill, Ingest as ingest, Session as session}
+use Rattle.command_words.specs.Commands.{Alone, Command, Drill as drill, Ingest as ingest, Serve as serve, Session as session}
 use Rattle.disk_model.specs.Crash.{Reached}
 use Rattle.disk_model.specs.Images.{Image}
 use Rattle.io_edges.specs.Lines.{lines}
@@ -78,6 +78,7 @@ done_over g session core store old_left old_taken told left taken to_tell e acts
 done_over {D} g ingest core store old_left old_taken told left taken to_tell e acts replies blamed (later, is, items, acts_are, over, none, by) =
     subst (λ (x : Store D). AreDoneOver g (Open core) acts replies x) (sym is)
     (subst (λ (as_done : List Act). AreDoneOver g (Open core) as_done replies (Open later)) (sym acts_are) (asks_over g items replies core later over.each))
+done_over {D} g (serve clients rounds) core store old_left old_taken told left taken to_tell e acts replies blamed came = absurd came
 done_over {D} g (drill seed traces) core store old_left old_taken told left taken to_tell e acts replies blamed (later, is, items, acts_are, over, same, came) =
     subst (λ (x : Store D). AreDoneOver g (Open core) acts replies x) (sym is)
     (subst (λ (as_done : List Act). AreDoneOver g (Open core) as_done replies (Open later)) (sym acts_are) (asks_over g items replies core later over.each))
@@ -228,6 +229,7 @@ module _ {D : Type 0} (g : Ghosts D) (core : Core D) (store : Store D) (m : Mach
       (all.0, all.1, all.2, came.1)
   came_shown ingest shows came =
       of_shown ingest (asked_ingest g (CoreShows g) false (shown_means g) (shown_ingests g) core store m shows old_left old_taken told left taken to_tell e acts replies blamed came)
+  came_shown (serve clients rounds) shows came = absurd came
   came_shown (drill seed traces) shows came =
       of_shown (drill seed traces) (asked_drill g (CoreShows g) false (shown_means g) (shown_ingests g) core store m shows seed traces old_left old_taken told left taken to_tell e acts replies blamed came)
   came_shown (Alone line) shows came =
@@ -279,6 +281,7 @@ module _ {D : Type 0} (g : Ghosts D) (core : Core D) (store : Store D) (m : Mach
     came_kept ingest writes stands came =
         of_kept ingest stands.0 writes
         (asked_ingest g (StandsThrough g start least []) true (through_means g start least []) (through_ingests g start least []) core store m stands old_left old_taken told left taken to_tell e acts replies blamed came)
+    came_kept (serve clients rounds) writes stands came = absurd came
     came_kept (drill seed traces) writes stands came =
         of_kept (drill seed traces) stands.0 writes
         (asked_drill g (StandsThrough g start least []) true (through_means g start least []) (through_ingests g start least []) core store m stands seed traces old_left old_taken told left taken to_tell e acts replies blamed came)

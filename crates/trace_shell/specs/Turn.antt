@@ -6,7 +6,7 @@ use Rattle.std.specs.Io.KnownBytes.{Appends}
 use Rattle.io_edges.specs.Devices.{AppendsPrefix}
 use Rattle.io_edges.specs.Lines.{lines}
 use Rattle.io_edges.specs.Reader.{Reader, IsToRead, TakesBytes}
-use Rattle.command_words.specs.Commands.{Alone, Command, Drill as drill, Ingest as ingest, Session as session}
+use Rattle.command_words.specs.Commands.{Alone, Command, Drill as drill, Ingest as ingest, Serve as serve, Session as session}
 use Rattle.store_core.specs.declared.error.OpenError.{OpenError}
 use Rattle.store_core.specs.declared.error.OpenError.TheVariants as open_errors
 use Rattle.session_text.specs.declared.refusal.Refusal.TheVariants as refusal
@@ -117,6 +117,7 @@ CameOver {D} ingest g start store old_left old_taken told left taken to_tell end
     × ((text before : List ℕ) → old_left ≡ Some text → old_taken ≡ Some before
     → CameByLines (λ todo rest. FollowsOver g todo told start items replies core rest to_tell) text before left taken
     ending replies)
+CameOver (serve clients rounds) g start store old_left old_taken told left taken to_tell ending acts replies blamed = ⊥
 CameOver {D} (drill seed traces) g start store old_left old_taken told left taken to_tell ending acts replies blamed =
     (core : Core D) × (store ≡ Open core) × (items : List Item) × (acts ≡ map Ask items)
     × HasAnsweredOver (port_of g) start items replies core × (left ≡ old_left)
@@ -138,6 +139,7 @@ CameTo sure ingest first last old_left old_taken told left taken to_tell ending 
     × ((text before : List ℕ) → old_left ≡ Some text → old_taken ≡ Some before
     → CameByLines (λ todo rest. Follows sure todo told first items replies last.store rest to_tell) text before left taken
     ending replies)
+CameTo sure (serve clients rounds) first last old_left old_taken told left taken to_tell ending acts replies blamed = ⊥
 CameTo sure (drill seed traces) first last old_left old_taken told left taken to_tell ending acts replies blamed =
     (items : List Item) × (acts ≡ map Ask items) × (left ≡ old_left)
     × CameThrough seed traces ending told items replies blamed to_tell old_taken taken

@@ -3,6 +3,7 @@
 ghost use Rattle.std.specs.Prelude.{true, false, ◌≡◌, ◌≢◌, List, Option, [], map, string_bytes, ℕ, IsTrue};
 ghost use Rattle.command_words.specs.Commands.{Command, Spells, command_of};
 ghost use Rattle.command_words.specs.Numbers.{word_faults};
+ghost use Rattle.command_words.specs.Spelling.{begins_to_serve};
 ghost use Rattle.io_edges.specs.Lines.{taken_limit};
 ghost use Rattle.io_edges.specs.Reader.{TakesBytes};
 ghost use Rattle.span_types.specs.Faults.{Rose};
@@ -13,7 +14,7 @@ ghost use Rattle.store_model.specs.Holds.{Hold};
 ghost use Rattle.session_text.specs.declared.reply.Reply.{Reply};
 ghost use Rattle.session_meaning.specs.Act.{Act};
 ghost use Rattle.session_meaning.specs.declared.ending.Ending.TheVariants.{NotOpened, ReadFault, Spent, WriteFault};
-ghost use Rattle.session_meaning.specs.Runs.{IsPastOpening, IsRunOf, Outcome, TakesNothing, edges};
+ghost use Rattle.session_meaning.specs.Runs.{IsForOne, IsPastOpening, IsRunOf, Outcome, TakesNothing, edges};
 ghost use Rattle.session_meaning.specs.Stops.{FindsBytes, Recovers};
 ghost use Rattle.traceql_types.specs.Makers.{RefusesOnly};
 ghost use Rattle.trace_shell.specs.Turn.{CameOver, HasDone, IsRefusedStore};
@@ -32,7 +33,7 @@ use store_core::{Core, OpenError};
 use store_reopen::Store;
 use traceql_types::PatternMaker;
 
-/// Does what the words say, and tells how it ended. The disk is handed back.
+/// Does what the words say that ask for one client, and tells how it ended. The disk is handed back.
 pub(crate) fn dispatch<S: Source, K: Sink, D: Device, C: Clock, P: PatternMaker, G: Gate>(
     alloc: Global,
     words: &[String],
@@ -43,6 +44,7 @@ pub(crate) fn dispatch<S: Source, K: Sink, D: Device, C: Clock, P: PatternMaker,
     patterns: &mut P,
     gate: &G,
 ) -> (Ending, D)
+    requires { begins_to_serve (map string_bytes words.now) ≡ false }
     ensures ran { (o : Outcome) × (o.ending ≡ result.0)
         × RefusesOnly P.makes patterns.old patterns.new o.refused
         × IsRunOf false (map string_bytes words.now) o
@@ -85,6 +87,7 @@ fn on_store<S: Source, K: Sink, D: Device, C: Clock, P: PatternMaker, G: Gate>(
     patterns: &mut P,
     gate: &G,
 ) -> (Ending, D)
+    requires { IsForOne (command_of asked) }
     ensures ran { (o : Outcome) × (o.ending ≡ result.0)
         × RefusesOnly P.makes patterns.old patterns.new o.refused
         × HasDone false (command_of asked) o
@@ -125,7 +128,8 @@ fn do_asked<S: Source, K: Sink, D: Device, C: Clock, P: PatternMaker, G: Gate>(
     patterns: &mut P,
     gate: &G,
 ) -> (Ending, Store<D>)
-    requires { (held : List Hold) × (port_of D.Device.own).holds core held }
+    requires holds { (held : List Hold) × (port_of D.Device.own).holds core held }
+    requires one { IsForOne (command_of asked) }
     ensures came { (acts : List Act) × (replies : List Reply) × (blamed : List (List ℕ))
         × RefusesOnly P.makes patterns.old patterns.new blamed
         × CameOver (command_of asked) D.Device.own core result.1 (S.left source.old)
@@ -148,6 +152,7 @@ fn do_asked<S: Source, K: Sink, D: Device, C: Clock, P: PatternMaker, G: Gate>(
             patterns,
             gate,
         ),
+        Asked::Serve { .. } => unreachable!(),
         Asked::Ingest => {
             let mut core = core;
             let ending = ingest(alloc, source, sink, &mut core, clock, gate);
@@ -175,7 +180,7 @@ fn do_asked<S: Source, K: Sink, D: Device, C: Clock, P: PatternMaker, G: Gate>(
 }
 
 // Tells why the store wasn't opened where its bytes are no store's, and how the run ends.
-fn refuse_store<K: Sink>(alloc: Global, sink: &mut K, error: OpenError) -> Ending
+pub(crate) fn refuse_store<K: Sink>(alloc: Global, sink: &mut K, error: OpenError) -> Ending
     ensures told { IsRefusedStore error result (K.taken sink.old) (K.taken sink.new) }
     ensures write_fault { result ≡ WriteFault → Rose (K.faults sink.old) (K.faults sink.new) }
 {

@@ -37,7 +37,7 @@ const MANY_ROWS: u64 = 131_072;
 const MOST_ROUNDS: u32 = 4_294_967_295;
 
 /// What comes after a line was read.
-enum After {
+pub(crate) enum After {
     /// The next line.
     Line,
     /// The end: there is no line any more.

@@ -2,16 +2,19 @@
 //!
 //! - `top` has the entry points, `run` and `run_alone`. `dispatch` opens the store and does what the words of the
 //!   command line say: `session` answers lines, `ingesting` pushes them, and `drilling` pushes lines that it makes.
+//!   `serving` does so for several clients at once, to whom `dealing` deals the lines.
 //! - The real program: `program` parts its arguments into folder and words, `real` has its standard streams.
 //!
 //! What `run` promises is `IsRunOf` of `session_meaning/specs/Runs.antt`; `docs/PROVED.md` has it in words.
 #![tactic(auto)]
 
+mod dealing;
 mod dispatch;
 mod drilling;
 mod ingesting;
 mod program;
 mod real;
+mod serving;
 mod session;
 mod top;
 

@@ -57,7 +57,7 @@ impl Tally {
     }
 
     // A session that had a refusal ends with another status, so each reply is looked at once.
-    fn add(&mut self, reply: &Reply)
+    pub(crate) fn add(&mut self, reply: &Reply)
         ensures { self.new ≡ tally_with self.old reply.now }
     {
         self.refused = self.refused || is_refusal(reply);

@@ -5,7 +5,9 @@ ghost use Rattle.std.specs.Prelude.{true, false, ◌≡◌, ◌≢◌, ◌⊎◌
 ghost use Rattle.std.specs.Process.{exit_status};
 ghost use Rattle.command_words.specs.Commands.{Command, Spells};
 ghost use Rattle.command_words.specs.Numbers.{word_faults};
+ghost use Rattle.command_words.specs.Spelling.{begins_to_serve};
 ghost use Rattle.session_meaning.specs.Runs.{IsRunOf, Outcome, TakesNothing, edges};
+ghost use Rattle.session_meaning.specs.ServedRuns.{RecoversServed, Served, ServesAs};
 ghost use Rattle.session_meaning.specs.Statuses.{status_of};
 ghost use Rattle.session_meaning.specs.Stops.{FindsBytes, Recovers};
 ghost use Rattle.store_core.specs.Opening.{LeavesAlone, StoreBreaks};
@@ -13,6 +15,8 @@ ghost use Rattle.store_images.specs.Stored.{IsSoundImage};
 ghost use Rattle.traceql_types.specs.Makers.{RefusesOnly};
 
 use crate::dispatch::dispatch;
+use crate::serving::serve_words;
+use command_words::asks_to_serve;
 use disk_model::Device;
 use io_edges::{Clock, Gate, Sink, Source};
 use std::alloc::Global;
@@ -46,7 +50,8 @@ pub fn exit_code<D: Drop>(ended: Ended<D>) -> ExitCode
 /// pushes lines that it makes from a seed, keeps the store up and searches it; `trace ID` answers the one line
 /// `trace ID`, and `search QUERY` with its options the one line that these make. The store is opened at the clock's first
 /// moment, in nanoseconds, and a new one is made on a disk that has none; the clock is then asked once for each line that
-/// has bytes. The disk is handed back as the store left it. No right to wait is needed.
+/// has bytes. The disk is handed back as the store left it. No right to wait is needed; the words of `serve`, which needs
+/// one, are for `run` alone.
 pub fn run_alone<
     R: Threads + Sync,
     S: Source,
@@ -66,6 +71,7 @@ pub fn run_alone<
     patterns: &mut P,
     gate: &G,
 ) -> Ended<D>
+    requires { begins_to_serve (map string_bytes words.now) ≡ false }
     // What the words ask was done, the maker refused what the outcome says, and the status tells how it ended. Queries
     // tell of all rows outside of blocks; what they find in blocks isn't said. Where the disk shows its bytes, whatever
     // they are, an opening again is refused for bytes that break and that a crash may have left since the run began, and
@@ -109,12 +115,15 @@ pub fn run_alone<
     }
 }
 
-/// The top call: as `run_alone`, and from the first command on that needs threads it will wait for them.
+/// The top call. Words that begin with `serve` answer several clients at once: all lines of the source are read first,
+/// each `c request` for client `c`; the clients' scripts are then answered over one store, each on a thread of its own,
+/// beside two that keep the store up; and the replies are written client by client. Each line that has bytes and each
+/// request of upkeep asks the clock once. All other words do what `run_alone` does.
 pub fn run<
     R: Threads + Wait + Sync,
     S: Source,
     K: Sink,
-    D: Device,
+    D: Device + Drop + Send,
     C: Clock,
     P: PatternMaker,
     G: Gate,
@@ -129,26 +138,37 @@ pub fn run<
     patterns: &mut P,
     gate: &G,
 ) -> Ended<D>
-    // What the words ask was done, the maker refused what the outcome says, and the status tells how it ended. Queries
-    // tell of all rows outside of blocks; what they find in blocks isn't said. Where the disk shows its bytes, whatever
-    // they are, an opening again is refused for bytes that break and that a crash may have left since the run began, and
-    // if the store is closed for them at the end, the disk that is handed back holds them.
-    ensures ran { (o : Outcome) × RefusesOnly P.makes patterns.old patterns.new o.refused
+    // What the words ask was done, the maker refused what the outcome says, and the status tells how it ended: clients
+    // were served, or one was. Queries tell of all rows outside of blocks; what they find in blocks isn't said. For one
+    // client, if the disk shows its bytes, whatever they are, an opening again is refused for bytes that break and that a
+    // crash may have left since the run began, and if the store is closed for them at the end, the disk that is handed
+    // back holds them.
+    ensures ran { ((o : Outcome) × RefusesOnly P.makes patterns.old patterns.new o.refused
         × IsRunOf false (map string_bytes words.now) o
         (edges S.left S.faults K.taken K.faults C.moments D.Device.own source.old sink.old clock.old disk)
         (edges S.left S.faults K.taken K.faults C.moments D.Device.own source.new sink.new clock.new result.disk)
-        × (result.status ≡ status_of o.ending) × FindsBytes D.Device.own disk result.disk o }
+        × (result.status ≡ status_of o.ending) × FindsBytes D.Device.own disk result.disk o)
+        ⊎ ((s : Served) × RefusesOnly P.makes patterns.old patterns.new s.refused
+        × ServesAs false (map string_bytes words.now) s
+        (edges S.left S.faults K.taken K.faults C.moments D.Device.own source.old sink.old clock.old disk)
+        (edges S.left S.faults K.taken K.faults C.moments D.Device.own source.new sink.new clock.new result.disk)
+        × (result.status ≡ status_of s.ending)) }
     // Over a disk whose bytes are shown and are a store's: it was done from what they store on, queries tell of all
     // that was pushed, wherever it lies, and what is stored as the disk is handed back, also if each of its calls failed
     // from some on, holds every push that was accepted by then; at any other moment it is a front of that. If the store
     // still writes at the end, and no opening failed in a
     // call of the disk since it was last open, what upkeep was told to have done stands on the disk.
     ensures recovers { IsTrue (D.tells disk) → IsSoundImage (D.held disk)
-        → (o : Outcome) × RefusesOnly P.makes patterns.old patterns.new o.refused
+        → ((o : Outcome) × RefusesOnly P.makes patterns.old patterns.new o.refused
         × IsRunOf true (map string_bytes words.now) o
         (edges S.left S.faults K.taken K.faults C.moments D.Device.own source.old sink.old clock.old disk)
         (edges S.left S.faults K.taken K.faults C.moments D.Device.own source.new sink.new clock.new result.disk)
-        × (result.status ≡ status_of o.ending) × Recovers D.Device.own disk result.disk o }
+        × (result.status ≡ status_of o.ending) × Recovers D.Device.own disk result.disk o)
+        ⊎ ((s : Served) × RefusesOnly P.makes patterns.old patterns.new s.refused
+        × ServesAs true (map string_bytes words.now) s
+        (edges S.left S.faults K.taken K.faults C.moments D.Device.own source.old sink.old clock.old disk)
+        (edges S.left S.faults K.taken K.faults C.moments D.Device.own source.new sink.new clock.new result.disk)
+        × (result.status ≡ status_of s.ending) × RecoversServed D.Device.own disk result.disk s) }
     // Nothing is done for faulty words: those at which `clap` finds a fault, or with a number out of its range.
     ensures nothing_done { word_faults (map string_bytes words.now) ≢ []
         → (source.new ≡ source.old) × (sink.new ≡ sink.old) × (result.disk ≡ disk)
@@ -165,5 +185,12 @@ pub fn run<
     ensures alone { (c : Command) → TakesNothing c → Spells (map string_bytes words.now) c
         → source.new ≡ source.old }
 {
-    run_alone(rt, alloc, words, source, sink, disk, clock, patterns, gate)
+    if !asks_to_serve(words) {
+        return run_alone(rt, alloc, words, source, sink, disk, clock, patterns, gate);
+    }
+    let (ending, disk) = serve_words(rt, alloc, words, source, sink, disk, clock, patterns, gate);
+    Ended {
+        status: ending.status(),
+        disk,
+    }
 }

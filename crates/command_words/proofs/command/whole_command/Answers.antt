@@ -14,4 +14,6 @@ returns c =
     let asked = c.in_ok-search_command.ensures in
     let fourth = c.in_ok-subcommand-4.ensures.shape asked.local ∙ ap₂ with_subcommand third asked.shape in
     let made = c.in_ok-drill_command.ensures in
-    IfOk-weaker c.subcommand-5.result _ _ (λ m added. added.shape made.local ∙ ap₂ with_subcommand fourth made.shape) c.subcommand-5.ensures
+    let fifth = c.in_ok-subcommand-5.ensures.shape made.local ∙ ap₂ with_subcommand fourth made.shape in
+    let served = c.in_ok-serve_command.ensures in
+    IfOk-weaker c.subcommand-6.result _ _ (λ m added. added.shape served.local ∙ ap₂ with_subcommand fifth served.shape) c.subcommand-6.ensures

@@ -7,8 +7,8 @@ use Rattle.clap.specs.declared.parser.matches.ArgMatches.{ArgMatches}
 use Rattle.command_words.specs.Commands.{ingest, session}
 use Rattle.command_words.specs.Table.{words_app}
 use Rattle.command_words.specs.declared.asked.WordsError.TheVariants.{Refused}
-use Rattle.command_words.proofs.Found.{told, tells_drill, tells_ingest, tells_one, tells_search, tells_session, tells_trace}
-use Rattle.command_words.proofs.Spelled.{clap_refused, drill_asked, drill_refused, never_refused, search_asked, strings_are_text, trace_asked}
+use Rattle.command_words.proofs.Found.{told, tells_drill, tells_ingest, tells_one, tells_search, tells_serve, tells_session, tells_trace}
+use Rattle.command_words.proofs.Spelled.{clap_refused, drill_asked, drill_refused, never_refused, search_asked, serve_asked, serve_refused, strings_are_text, trace_asked}
 use Rattle.command_words.proofs.Whole.{IsBareTrace}
 use Rattle.command_words.proofs.read.read_words.Goals as goal
 
@@ -66,6 +66,28 @@ returns-in-drill-clause-refused c =
     let tells = told words c.in_ok-matches.matches (Some met) c.in_ok-matches.ensures.no_fault c.in_ok-matches.ensures.found c.in-Some.ensures.name c.in-Some.ensures.rows in
     λ e. drill_refused words _ (tells_drill words met tells c.in-drill.is) (c.asked_drill.ensures.refused e)
 
+pub asked_serve-requires : goal.asked_serve-requires
+asked_serve-requires c =
+    let words = map string_bytes c.args.words.now in
+    let met : Bor (List ℕ) × Bor ArgMatches = (c.in-Some.name, c.in-Some.given) in
+    let tells = told words c.in_ok-matches.matches (Some met) c.in_ok-matches.ensures.no_fault c.in_ok-matches.ensures.found c.in-Some.ensures.name c.in-Some.ensures.rows in
+    (tells_serve words met tells c.in-serve.is).has_clients
+
+pub returns-in-serve-clause-asked : goal.returns-in-serve-clause-asked
+returns-in-serve-clause-asked c =
+    let words = map string_bytes c.args.words.now in
+    let met : Bor (List ℕ) × Bor ArgMatches = (c.in-Some.name, c.in-Some.given) in
+    let tells = told words c.in_ok-matches.matches (Some met) c.in_ok-matches.ensures.no_fault c.in_ok-matches.ensures.found c.in-Some.ensures.name c.in-Some.ensures.rows in
+    IfOk-weaker c.asked_serve.result _ _
+    (serve_asked words _ c.in_ok-matches.ensures.no_fault (tells_serve words met tells c.in-serve.is)) c.asked_serve.ensures.ok
+
+pub returns-in-serve-clause-refused : goal.returns-in-serve-clause-refused
+returns-in-serve-clause-refused c =
+    let words = map string_bytes c.args.words.now in
+    let met : Bor (List ℕ) × Bor ArgMatches = (c.in-Some.name, c.in-Some.given) in
+    let tells = told words c.in_ok-matches.matches (Some met) c.in_ok-matches.ensures.no_fault c.in_ok-matches.ensures.found c.in-Some.ensures.name c.in-Some.ensures.rows in
+    λ e. serve_refused words _ (tells_serve words met tells c.in-serve.is) (c.asked_serve.ensures.refused e)
+
 pub id_of-requires : goal.id_of-requires
 id_of-requires c =
     let words = map string_bytes c.args.words.now in
@@ -110,4 +132,4 @@ unreachable-requires-in_default-name c =
     let words = map string_bytes c.args.words.now in
     let met : Bor (List ℕ) × Bor ArgMatches = (c.in-Some.name, c.in-Some.given) in
     let tells = told words c.in_ok-matches.matches (Some met) c.in_ok-matches.ensures.no_fault c.in_ok-matches.ensures.found c.in-Some.ensures.name c.in-Some.ensures.rows in
-    tells_one words met tells c.in_default-name.not-session c.in_default-name.not-ingest c.in_default-name.not-drill c.in_default-name.not-trace c.in_default-name.not-search
+    tells_one words met tells c.in_default-name.not-session c.in_default-name.not-ingest c.in_default-name.not-drill c.in_default-name.not-serve c.in_default-name.not-trace c.in_default-name.not-search

@@ -1,0 +1,83 @@
+//! Theorems about several clients that were answered at once (`Ran`), and about runs that serve clients.
+//!
+//! Each function has an empty body: its contract is the statement, and its proof stands in `proofs/serving_laws/`.
+
+ghost use Rattle.std.specs.Prelude.{Bool, ◌≡◌, ◌∷◌, ◌++◌, List, Ok, true, false, length, map, ℕ};
+ghost use Rattle.client_scripts.specs.declared.script.Answered.{Answered};
+ghost use Rattle.client_scripts.specs.Numbers.{AreInARow, given_numbers};
+ghost use Rattle.otlp_spans.specs.declared.read.Reading.{Reading};
+ghost use Rattle.port_history.specs.Entries.{Entry, call_of};
+ghost use Rattle.session_text.specs.declared.refusal.Refusal.{Refusal};
+ghost use Rattle.session_text.specs.declared.reply.Reply.TheVariants.{Pushed, Refused};
+ghost use Rattle.session_text.specs.declared.request.Request.TheVariants.{Push};
+ghost use Rattle.session_text.specs.Items.{Item};
+ghost use Rattle.store_model.specs.History.{count_of};
+ghost use Rattle.store_model.specs.Laws.{Agrees};
+ghost use Rattle.store_state.specs.Made.{Call};
+ghost use Rattle.session_meaning.specs.Answering.{CallsLead};
+ghost use Rattle.session_meaning.specs.At.{At, history_of};
+ghost use Rattle.session_meaning.specs.Causes.{HasPushCause};
+ghost use Rattle.session_meaning.specs.Pushes.{HasRoomForPush};
+ghost use Rattle.session_meaning.specs.Runs.{ComesToItsEnd, Edges, ReadsWell};
+ghost use Rattle.session_meaning.specs.ServedReplies.{AllTellFronts, AskNothing, WasReplied};
+ghost use Rattle.session_meaning.specs.ServedRuns.{IsServedRun, Served};
+ghost use Rattle.session_meaning.specs.Serving.{Ran};
+ghost use Rattle.session_meaning.specs.Session.{Session};
+
+/// The accepted pushes of all clients are numbered in the one order of all calls: from the first history's length on and
+/// without a gap, so each number is given once.
+pub fn numbers_are_given_once()
+    ensures { (told : Bool) (first last : At) (scripts : List (List Item))
+        (answers : List Answered) (entries : List Entry)
+        → Ran told first scripts answers entries last
+        → AreInARow (count_of (history_of first)) (given_numbers (map call_of entries)) }
+{}
+
+/// Which pushes of clients are refused by the store, and which are accepted. `before` and `after` are places on the one
+/// way that all calls lead, and `calls` lead to the first of them.
+pub fn pushes_of_clients_have_their_causes()
+    // Refused, it has the cause that its reply names, where it was asked, and the history stays.
+    ensures refused { (told : Bool) (first last : At) (scripts : List (List Item))
+        (answers : List Answered) (entries : List Entry) (reading : Reading) (moment : ℕ)
+        (why : Refusal) → Ran told first scripts answers entries last
+        → WasReplied scripts answers (Ok (Push reading moment)) (Refused why)
+        → (calls later : List Call) × (before after : At)
+        × (map call_of entries ≡ calls ++ later) × CallsLead first calls before
+        × HasPushCause why (length reading.batch.spans) before after
+        × (history_of after ≡ history_of before) }
+    // Accepted, it had room in a store that writes, and its reply says how many came before it.
+    ensures accepted { (told : Bool) (first last : At) (scripts : List (List Item))
+        (answers : List Answered) (entries : List Entry) (reading : Reading)
+        (moment number kept rejected skipped : ℕ) → Ran told first scripts answers entries last
+        → WasReplied scripts answers (Ok (Push reading moment))
+        (Pushed number kept rejected skipped)
+        → (calls later : List Call) × (before : At)
+        × (map call_of entries ≡ calls ++ later) × CallsLead first calls before
+        × HasRoomForPush (length reading.batch.spans) before.machine
+        × (number ≡ count_of (history_of before)) }
+{}
+
+/// What a client was told of counts in what it is told later: each query covers all pushes of the first history, each
+/// push of its client that was accepted before, and all that its client's earlier queries covered. It tells just what
+/// that front of the last history has.
+pub fn what_was_seen_counts()
+    ensures { (first last : At) (scripts : List (List Item)) (answers : List Answered)
+        (entries : List Entry) → Ran true first scripts answers entries last
+        → AllTellFronts (history_of last) (count_of (history_of first)) scripts answers }
+{}
+
+/// One script that is answered to its end beside others that ask nothing is a session.
+pub fn one_script_is_a_session()
+    ensures { (told : Bool) (first last : At) (script : List Item) (others : List (List Item))
+        (answered : Answered) (answers : List Answered) (entries : List Entry)
+        → Ran told first (script ∷ others) (answered ∷ answers) entries last
+        → AskNothing others → Agrees first.machine → answered.starved ≡ false
+        → Session false first script answered.replies.items last }
+{}
+
+/// A run that serves clients in which no call failed comes to its own end.
+pub fn serving_comes_to_an_end()
+    ensures { (told : Bool) (clients rounds : ℕ) (s : Served) (old new : Edges)
+        → IsServedRun told clients rounds s old new → ReadsWell old new
+        → ComesToItsEnd s.ending }
+{}

@@ -1,0 +1,330 @@
+//! The lines of a source are read to its end and dealt to clients, and the requests that keep a store up are written
+//! down behind them. Nothing is asked of a store here.
+
+ghost use Rattle.std.specs.Prelude.{◌≡◌, ◌⊎◌, ◌+◌, ◌*◌, ◌<◌, ◌≤◌, ◌++◌, ℕ, List, [], ◌∷◌, Option, Some, Ok, IfErr, IfNone, IfOk, IfSome, MatchResult, OnErr, decimal, length, replicate, vec_capacity, vec_len};
+ghost use Rattle.span_types.specs.Faults.{Rose};
+ghost use Rattle.io_edges.specs.Lines.{line_limit, taken_limit};
+ghost use Rattle.io_edges.specs.Reader.{TakesBytes, to_come};
+ghost use Rattle.session_meaning.specs.declared.ending.Ending.TheVariants.{ReadFault, Spent};
+ghost use Rattle.session_meaning.specs.Asked.{IsNextMoment, after_moment};
+ghost use Rattle.session_text.specs.Items.{Item as AsItem};
+ghost use Rattle.session_meaning.specs.Serving.{AreCuts, IsDealt, IsFrom, after_moments, compactions};
+ghost use Rattle.traceql_types.specs.Makers.{RefusesOnly};
+ghost use Rattle.trace_shell.specs.Dealing.{DealtOn, HasDealt, HasStopped, IsDealingAt, IsEarly, IsGiven, scripts_in};
+ghost use Rattle.trace_shell.specs.Ingesting.{ending_in};
+
+use crate::ingesting::After;
+use client_scripts::{Item, Scripts};
+use io_edges::{Clock, Line, LineError, LineReader, Source};
+use session_meaning::Ending;
+use session_text::{Refusal, Request, read_request};
+use span_types::{Memory, Seq};
+use std::alloc::Global;
+use traceql_types::PatternMaker;
+
+/// Reads the lines of a source to its end, and deals them to so many clients: `c request` to client `c`. Each is read at
+/// the clock's next moment. Gives what each client asks, or how the run ends before anything is asked.
+pub(crate) fn read_scripts<S: Source, C: Clock, P: PatternMaker>(
+    alloc: Global,
+    clients: u32,
+    source: &mut S,
+    clock: &mut C,
+    patterns: &mut P,
+) -> Result<Vec<Vec<Item>>, Ending>
+    requires one { 1 ≤ clients }
+    requires few { clients ≤ 16 }
+    ensures dealt { (blamed : List (List ℕ)) × RefusesOnly P.makes patterns.old patterns.new blamed
+        × ((text : List ℕ) → S.left source.old ≡ Some text → MatchResult result
+        (λ scripts. HasDealt clients (C.moments clock.old) text (C.moments clock.new)
+        (scripts_in scripts.items) blamed)
+        (λ ending. HasStopped clients (C.moments clock.old) text (S.left source.new)
+        (C.moments clock.new) ending blamed)) }
+    ensures as_many { IfOk result (λ scripts. vec_len scripts ≡ clients) }
+    ensures early { IfErr result IsEarly }
+    ensures read_fault { IfErr result (λ ending. ending ≡ ReadFault
+        → Rose (S.faults source.old) (S.faults source.new)) }
+    ensures spent { IfErr result (λ ending. ending ≡ Spent
+        → TakesBytes (S.left source.old) (S.left source.new) 0 taken_limit) }
+{
+    let mut reader = LineReader::new(alloc);
+    let Ok(mut scripts) = empty_scripts(alloc, clients) else {
+        return Err(Ending::Starved);
+    };
+    'lines: loop {
+        match deal_next(
+            alloc,
+            &mut reader,
+            source,
+            clock,
+            patterns,
+            clients,
+            &mut scripts,
+        ) {
+            After::Line => {}
+            After::End => return Ok(scripts),
+            After::Ending(ending) => return Err(ending),
+        }
+    }
+}
+
+// So many scripts that ask nothing.
+fn empty_scripts(alloc: Global, clients: u32) -> Result<Vec<Vec<Item>>, Memory>
+    ensures { IfOk result (λ scripts. scripts_in scripts.items ≡ replicate clients []) }
+{
+    let mut scripts = Vec::new(alloc);
+    for _client in 0..clients {
+        scripts.push(Vec::new(alloc))?;
+    }
+    Ok(scripts)
+}
+
+// Reads the next line and deals it.
+fn deal_next<S: Source, C: Clock, P: PatternMaker>(
+    alloc: Global,
+    reader: &mut LineReader,
+    source: &mut S,
+    clock: &mut C,
+    patterns: &mut P,
+    clients: u32,
+    scripts: &mut Vec<Vec<Item>>,
+) -> After
+    requires one { 1 ≤ clients }
+    requires few { clients ≤ 16 }
+    requires as_many { vec_len scripts.old ≡ clients }
+    ensures dealt { (more : List (List ℕ)) × RefusesOnly P.makes patterns.old patterns.new more
+        × ((told : Option (List ℕ)) (text : List ℕ) (blamed : List (List ℕ))
+        → IsDealingAt clients told text (S.left source.old) (C.moments clock.old) reader.old
+        (scripts_in scripts.old.items) blamed
+        → DealtOn result clients told text (S.left source.new) (C.moments clock.new) reader.new
+        (scripts_in scripts.new.items) (blamed ++ more)) }
+    ensures as_many { vec_len scripts.new ≡ clients }
+    ensures nearer { result ≡ After.Line → to_come reader.new < to_come reader.old }
+    ensures source_counted { S.faults source.old ≤ S.faults source.new }
+    ensures early { IfSome (ending_in result) IsEarly }
+    ensures read_fault { IfSome (ending_in result) (λ ending. ending ≡ ReadFault
+        → Rose (S.faults source.old) (S.faults source.new)) }
+    ensures took { TakesBytes (S.left source.old)
+        (S.left source.new) reader.old.taken reader.new.taken }
+    ensures spent { IfSome (ending_in result) (λ ending. ending ≡ Spent
+        → reader.new.taken ≡ taken_limit) }
+{
+    let line = match reader.next(source) {
+        Ok(line) => line,
+        Err(LineError::Fault) => return After::Ending(Ending::ReadFault),
+        Err(LineError::Memory) => return After::Ending(Ending::Starved),
+    };
+    match line {
+        Line::Whole(bytes) => {
+            deal_line(alloc, clock, patterns, clients, scripts, bytes.as_slice())
+        }
+        Line::TooLong { length } => {
+            // A line that is refused unread takes a moment of the clock like any other.
+            let _moment = clock.now();
+            give(scripts, 0, Err(Refusal::TooLong { length }))
+        }
+        Line::End => After::End,
+        Line::Spent { .. } => After::Ending(Ending::Spent),
+    }
+}
+
+// Deals a line that isn't too long. One without bytes is left out, and the clock isn't asked for it.
+fn deal_line<C: Clock, P: PatternMaker>(
+    alloc: Global,
+    clock: &mut C,
+    patterns: &mut P,
+    clients: u32,
+    scripts: &mut Vec<Vec<Item>>,
+    line: &[u8],
+) -> After
+    requires one { 1 ≤ clients }
+    requires few { clients ≤ 16 }
+    requires as_many { vec_len scripts.old ≡ clients }
+    requires short { length line.now ≤ line_limit }
+    ensures empty { line.now ≡ [] → (result ≡ After.Line) × (scripts.new ≡ scripts.old)
+        × (clock.new ≡ clock.old) × (patterns.new ≡ patterns.old) }
+    ensures dealt { 0 < length line.now → (more : List (List ℕ))
+        × RefusesOnly P.makes patterns.old patterns.new more
+        × (moment client : ℕ) × (item : AsItem) × IsNextMoment (C.moments clock.old) moment
+        × IsDealt clients moment line.now more (record { client = client; item = item })
+        × (C.moments clock.new ≡ after_moment (C.moments clock.old))
+        × IsGiven client item (scripts_in scripts.old.items) (scripts_in scripts.new.items) result }
+    ensures as_many { vec_len scripts.new ≡ clients }
+    ensures turned { (result ≡ After.Line) ⊎ (result ≡ After.Ending Ending.Starved) }
+{
+    if line.is_empty() {
+        return After::Line;
+    }
+    let moment = clock.now();
+    let (client, item) = item_of(alloc, patterns, clients, line, moment);
+    give(scripts, client, item)
+}
+
+// To whom a line goes that was read at this moment, in nanoseconds, and what it asks or why it is refused.
+fn item_of<P: PatternMaker>(
+    alloc: Global,
+    patterns: &mut P,
+    clients: u32,
+    line: &[u8],
+    moment: u64,
+) -> (u32, Item)
+    requires one { 1 ≤ clients }
+    requires few { clients ≤ 16 }
+    requires short { length line.now ≤ line_limit }
+    ensures dealt { (more : List (List ℕ)) × RefusesOnly P.makes patterns.old patterns.new more
+        × IsDealt clients moment line.now more (record { client = result.0; item = result.1 }) }
+    ensures one { result.0 < clients }
+{
+    match client_of(clients, line) {
+        Some((client, request)) => {
+            let item = read_request(alloc, request, moment, patterns);
+            (client, item)
+        }
+        None => (0, Err(Refusal::BadRequest { at: 0 })),
+    }
+}
+
+// The client whose number a line begins with, and its request.
+fn client_of(clients: u32, line: &[u8]) -> Option<(u32, &[u8])>
+    requires { clients ≤ 16 }
+    ensures one { IfSome result (λ found. IsFrom clients line.now found.0 found.1.now) }
+    ensures none { IfNone result ((client : ℕ) (request : List ℕ)
+        → IsFrom clients line.now client request → ⊥) }
+{
+    let (client, request) = number_and_rest(line)?;
+    (client < clients).then_some((client, request))
+}
+
+// A number below 20 in decimal digits that stands before one space, and what follows that.
+fn number_and_rest(line: &[u8]) -> Option<(u32, &[u8])>
+    ensures one { IfSome result (λ found. found.0 < 20) }
+    ensures is { IfSome result (λ found. line.now ≡ decimal found.0 ++ 32 ∷ found.1.now) }
+    ensures none { IfNone result ((number : ℕ) (rest : List ℕ) → number < 20
+        → line.now ≡ decimal number ++ 32 ∷ rest → ⊥) }
+{
+    let [first, later @ ..] = line else {
+        return None;
+    };
+    let one = digit_of(*first)?;
+    let [second, after @ ..] = later else {
+        return None;
+    };
+    if *second == b' ' {
+        return Some((one, after));
+    }
+    if one != 1 {
+        return None;
+    }
+    let two = digit_of(*second)?;
+    let [third, rest @ ..] = after else {
+        return None;
+    };
+    (*third == b' ').then_some((10 + two, rest))
+}
+
+// The decimal digit that a byte is.
+fn digit_of(byte: u8) -> Option<u32>
+    ensures is { IfSome result (λ digit. (digit < 10) × (byte ≡ 48 + digit)) }
+    ensures none { IfNone result ((digit : ℕ) → digit < 10 → byte ≡ 48 + digit → ⊥) }
+{
+    if byte < b'0' || byte > b'9' {
+        return None;
+    }
+    Some(u32::from(byte - b'0'))
+}
+
+// Puts what a client asks behind what it asked before.
+fn give(scripts: &mut Vec<Vec<Item>>, client: u32, item: Item) -> After
+    requires { client < vec_len scripts.old }
+    ensures given { IsGiven client item (scripts_in scripts.old.items)
+        (scripts_in scripts.new.items) result }
+    ensures as_many { vec_len scripts.new ≡ vec_len scripts.old }
+    ensures turned { (result ≡ After.Line) ⊎ (result ≡ After.Ending Ending.Starved) }
+{
+    let script = &mut scripts[client as usize];
+    match script.push(item) {
+        Ok(()) => After::Line,
+        Err(_) => After::Ending(Ending::Starved),
+    }
+}
+
+/// What the clients ask, and behind that two scripts that keep the store up, so many rounds each: one of cuts and
+/// flushes, and one of compactions and the emptying of loose files. Each of their requests is read at the clock's next
+/// moment. Out of memory the clock isn't asked.
+pub(crate) fn with_upkeep<C: Clock>(
+    alloc: Global,
+    scripts: Vec<Vec<Item>>,
+    rounds: u32,
+    clock: &mut C,
+) -> Result<Scripts, Memory>
+    requires few { vec_len scripts ≤ 16 }
+    ensures all { IfOk result (λ all. (cuts : List AsItem)
+        × AreCuts rounds (C.moments clock.old) cuts
+        × (all.items ≡ scripts_in scripts.items ++ cuts ∷ compactions rounds ∷ [])) }
+    ensures clock { IfOk result (λ _. C.moments clock.new
+        ≡ after_moments (4 * rounds) (C.moments clock.old)) }
+    ensures starved { OnErr result (clock.new ≡ clock.old) }
+{
+    let mut all = Vec::with_capacity(alloc, scripts.len() + 2)?;
+    let mut cuts = Vec::with_capacity(alloc, 2 * rounds as usize)?;
+    let mut joins = Vec::with_capacity(alloc, 2 * rounds as usize)?;
+    for script in scripts {
+        add(&mut all, script);
+    }
+    cut_and_flush(&mut cuts, rounds, clock);
+    compact_and_reclaim(&mut joins, rounds, clock);
+    add(&mut all, cuts);
+    add(&mut all, joins);
+    Ok(all)
+}
+
+// Puts a script behind others, where there is room for it.
+fn add(all: &mut Scripts, script: Vec<Item>)
+    requires { vec_len all.old < vec_capacity all.old }
+    ensures added { all.new.items ≡ all.old.items ++ script.items ∷ [] }
+    ensures room { vec_capacity all.old ≤ vec_capacity all.new }
+{
+    let Ok(()) = all.push(Seq::of(script)) else {
+        unreachable!()
+    };
+}
+
+// Writes down a cut and a flush, so often.
+fn cut_and_flush<C: Clock>(items: &mut Vec<Item>, rounds: u32, clock: &mut C)
+    requires empty { items.old.items ≡ [] }
+    requires room { 2 * rounds ≤ vec_capacity items.old }
+    ensures cuts { AreCuts rounds (C.moments clock.old) items.new.items }
+    ensures clock { C.moments clock.new ≡ after_moments (2 * rounds) (C.moments clock.old) }
+{
+    for _round in 0..rounds {
+        let moment = clock.now();
+        put(items, Request::Cut { moment });
+        let _moment = clock.now();
+        put(items, Request::Flush);
+    }
+}
+
+// Writes down a compaction and the emptying of loose files, so often.
+fn compact_and_reclaim<C: Clock>(items: &mut Vec<Item>, rounds: u32, clock: &mut C)
+    requires empty { items.old.items ≡ [] }
+    requires room { 2 * rounds ≤ vec_capacity items.old }
+    ensures compactions { items.new.items ≡ compactions rounds }
+    ensures clock { C.moments clock.new ≡ after_moments (2 * rounds) (C.moments clock.old) }
+{
+    for _round in 0..rounds {
+        let _moment = clock.now();
+        put(items, Request::Compact);
+        let _moment = clock.now();
+        put(items, Request::Reclaim);
+    }
+}
+
+// Puts a request behind others, where there is room for it.
+fn put(items: &mut Vec<Item>, request: Request)
+    requires { vec_len items.old < vec_capacity items.old }
+    ensures put { items.new.items ≡ items.old.items ++ Ok request ∷ [] }
+    ensures room { vec_capacity items.old ≤ vec_capacity items.new }
+{
+    let Ok(()) = items.push(Ok(request)) else {
+        unreachable!()
+    };
+}
