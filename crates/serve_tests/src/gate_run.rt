@@ -14,6 +14,7 @@ use std::thread::yield_now;
 const TURNS: u32 = 10_000_000;
 
 // What has happened so far.
+#[derive(Drop)]
 struct Points {
     // Client 0's search has begun.
     begun: AtomicBool,
