@@ -3,6 +3,8 @@
 #![tactic(auto)]
 
 #[cfg(test)]
+mod orders;
+#[cfg(test)]
 mod texts;
 #[cfg(test)]
 mod together;
