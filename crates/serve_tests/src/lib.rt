@@ -5,6 +5,8 @@
 #[cfg(test)]
 mod gate_run;
 #[cfg(test)]
+mod orders;
+#[cfg(test)]
 mod texts;
 #[cfg(test)]
 mod together;
