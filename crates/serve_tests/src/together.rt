@@ -16,14 +16,14 @@ static ORDERS: [(u64, u64, u64); 3] = [(0, 1, 2), (1, 0, 2), (1, 0, 1)];
 
 /// What the upkeep is told of a store whose traces aren't idle.
 const UPKEEP: &str =
-    "2 ok cut moved=0\n2 ok flush nothing\n2 ok cut moved=0\n2 ok flush nothing\n3 ok compact nothing\n3 ok reclaim files=0\n3 ok compact nothing\n3 ok reclaim files=0\n";
+    "2 ok cut moved=0\n2 ok flush nothing\n2 ok cut moved=0\n2 ok flush nothing\n2 ok cut moved=0\n2 ok flush nothing\n3 ok compact nothing\n3 ok reclaim files=0\n3 ok compact nothing\n3 ok reclaim files=0\n3 ok compact nothing\n3 ok reclaim files=0\n";
 
 // Two clients push one span each, and the second searches.
 fn two_clients<R: Threads + Wait + Sync + Abort + AllocGlobal>(rt: &R) -> Played {
     let alloc = rt.alloc();
     let input = format!(in alloc; "0 {PUSH_X}\n1 {PUSH_Z}\n1 search {{ }}\n");
     let input = input.expect(rt, "memory");
-    let words = ["serve", "--clients", "2", "--rounds", "2"];
+    let words = ["serve", "--clients", "2", "--rounds", "3"];
     let disk = MemDisk::empty(alloc);
     play(rt, alloc, disk, &words, input.as_str(), FINE, &[]).expect(rt, "memory")
 }
@@ -49,7 +49,7 @@ fn two_clients_and_upkeep(rt: HostRuntime) {
         }
         assert!(&rt; allowed, "{text}");
         assert!(&rt; text.ends_with(UPKEEP), "{text}");
-        assert_eq!(rt; text.lines().count(), 11);
+        assert_eq!(rt; text.lines().count(), 15);
         assert_eq!(rt; played.status, 0);
     }
 }
