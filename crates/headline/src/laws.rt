@@ -65,9 +65,9 @@ pub fn the_headline<D: Device>(disk: &D, later: &D)
 {}
 
 /// The headline of several clients that were answered at once. Each answer is TraceQL's meaning over one front of the
-/// last history. The front has all that was stored at first, each push that its client had seen acknowledged, and all
-/// that its client's earlier answers told of. Whatever a crash leaves of the disk afterwards stands for that history to
-/// its end, and it may be for one push more that was answered `disk-fault`.
+/// last history. The front reaches over all that was stored at first, over the number of each push that its client had
+/// seen acknowledged, and over all that its client's earlier answers told of. Whatever a crash leaves of the disk
+/// afterwards stands for that history to its end, and it may be for one push more that was answered `disk-fault`.
 pub fn the_headline_of_clients<D: Device>(disk: &D, later: &D)
     ensures answers { (words : List (List ℕ)) (s : Served) (old new : Edges)
         → ServesAs true words s old new
