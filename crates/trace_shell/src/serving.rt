@@ -93,14 +93,17 @@ pub(crate) fn serve_words<
         → LeavesAlone D.Device.own disk result.1 }
     ensures unread { (IsPastOpening result.0 → ⊥) → source.new ≡ source.old }
 {
-    match read_words(alloc, words) {
-        Ok(Asked::Serve { clients, rounds }) => serve_on_store(
-            rt, alloc, clients, rounds, source, sink, disk, clock, patterns, gate,
-        ),
-        Ok(_) => unreachable!(),
-        Err(WordsError::Refused) => (Ending::BadWords, disk),
-        Err(WordsError::Memory) => (Ending::Starved, disk),
-    }
+    let asked = match read_words(alloc, words) {
+        Ok(asked) => asked,
+        Err(WordsError::Refused) => return (Ending::BadWords, disk),
+        Err(WordsError::Memory) => return (Ending::Starved, disk),
+    };
+    let Asked::Serve { clients, rounds } = asked else {
+        unreachable!()
+    };
+    serve_on_store(
+        rt, alloc, clients, rounds, source, sink, disk, clock, patterns, gate,
+    )
 }
 
 // Opens the store of the disk, serves so many clients, and closes it.
@@ -207,10 +210,10 @@ fn serve<
         return (Ending::Starved, core);
     };
     let (core, answers) = run_scripts(rt, alloc, core, scripts, gate);
-    let ending = match answers {
-        Ok(answers) => write_all(alloc, sink, answers.as_slice()),
-        Err(Memory) => Ending::Starved,
+    let Ok(answers) = answers else {
+        return (Ending::Starved, core);
     };
+    let ending = write_all(alloc, sink, answers.as_slice());
     (ending, core)
 }
 
