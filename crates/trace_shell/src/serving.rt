@@ -18,7 +18,7 @@ ghost use Rattle.session_meaning.specs.declared.ending.Ending.TheVariants.{NotOp
 ghost use Rattle.session_meaning.specs.Runs.{IsPastOpening, IsRunOf, Outcome, edges};
 ghost use Rattle.session_meaning.specs.ServedRuns.{EndsServing, IsServedRun, RecoversServed, Served, ServesAs, all_replies};
 ghost use Rattle.session_meaning.specs.Serving.{reply_to, served_texts, texts_to};
-ghost use Rattle.session_meaning.specs.Stops.{Recovers};
+ghost use Rattle.session_meaning.specs.Stops.{FindsBytes, Recovers};
 ghost use Rattle.traceql_types.specs.Makers.{RefusesOnly};
 ghost use Rattle.trace_shell.specs.Serving.{CameServing, HaveBeenGiven};
 ghost use Rattle.trace_shell.specs.Turn.{HasDone};
@@ -65,7 +65,8 @@ pub(crate) fn serve_words<
         × RefusesOnly P.makes patterns.old patterns.new o.refused
         × IsRunOf false (map string_bytes words.now) o
         (edges S.left S.faults K.taken K.faults C.moments D.Device.own source.old sink.old clock.old disk)
-        (edges S.left S.faults K.taken K.faults C.moments D.Device.own source.new sink.new clock.new result.1))
+        (edges S.left S.faults K.taken K.faults C.moments D.Device.own source.new sink.new clock.new result.1)
+        × FindsBytes D.Device.own disk result.1 o)
         ⊎ ((s : Served) × (s.ending ≡ result.0)
         × RefusesOnly P.makes patterns.old patterns.new s.refused
         × ServesAs false (map string_bytes words.now) s
@@ -133,7 +134,8 @@ fn serve_on_store<
         × RefusesOnly P.makes patterns.old patterns.new o.refused
         × HasDone false (Serve clients rounds) o
         (edges S.left S.faults K.taken K.faults C.moments D.Device.own source.old sink.old clock.old disk)
-        (edges S.left S.faults K.taken K.faults C.moments D.Device.own source.new sink.new clock.new result.1))
+        (edges S.left S.faults K.taken K.faults C.moments D.Device.own source.new sink.new clock.new result.1)
+        × FindsBytes D.Device.own disk result.1 o)
         ⊎ ((s : Served) × (s.ending ≡ result.0)
         × RefusesOnly P.makes patterns.old patterns.new s.refused
         × IsServedRun false clients rounds s

@@ -92,6 +92,7 @@ returns-in-Err-clause-ran g c =
           c.in-Err.ensures.calls_refused.fault c.in-Err.ensures.calls_refused.quiet (c.in-Err.ensures.calls_refused.near (omega arith))
           (λ file at is. if_told d c.args.disk (λ image. StoreBreaks image file at × (IsSoundImage image → ⊥))
           (λ told. (c.in-Err.ensures.not_store told file at is, λ sound. c.in-Err.ensures.sound told sound file at is))),
+      record { fit = λ told. tt; closed = λ told. tt },
     )
 
 pub returns-in-Err-clause-recovers : goal.returns-in-Err-clause-recovers

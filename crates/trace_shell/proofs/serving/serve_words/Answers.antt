@@ -32,7 +32,7 @@ returns-clause-ran g c =
     let d = g.D.Device in
     let old : Edges = edges g.S.Source.left g.S.Source.faults g.K.Sink.taken g.K.Sink.faults g.C.Clock.moments d c.args.source.now c.args.sink.now c.args.clock.now c.args.disk in
     let new : Edges = edges g.S.Source.left g.S.Source.faults g.K.Sink.taken g.K.Sink.faults g.C.Clock.moments d c.serve_on_store.new.source c.serve_on_store.new.sink c.serve_on_store.new.clock c.serve_on_store.result.1 in
-    ⊎_elim (λ o. inl (o.0, o.1, o.2, is_run false words (Serve c.in-Serve.clients c.in-Serve.rounds) o.0 old new asks o.3))
+    ⊎_elim (λ o. inl (o.0, o.1, o.2, is_run false words (Serve c.in-Serve.clients c.in-Serve.rounds) o.0 old new asks o.3, o.4))
     (λ s. inr (s.0, s.1, s.2, (c.in-Serve.clients, c.in-Serve.rounds, asks, s.3)))
     c.serve_on_store.ensures.ran
 
@@ -60,6 +60,7 @@ returns-in-Err-Refused-clause-ran g c =
       refuses-none g.P.PatternMaker.makes _ c.args.patterns.now c.args.patterns.now,
       refused_runs false (map string_bytes c.args.words.now) (edges g.S.Source.left g.S.Source.faults g.K.Sink.taken g.K.Sink.faults g.C.Clock.moments g.D.Device c.args.source.now c.args.sink.now c.args.clock.now c.args.disk)
           (c.read_words.ensures.refused (c.in-Err-Refused.is ∙ ap Err c.in-Err-Refused.field-0-is)),
+      record { fit = λ told. tt; closed = λ told. tt },
     )
 
 pub returns-in-Err-Refused-clause-recovers : goal.returns-in-Err-Refused-clause-recovers
@@ -80,6 +81,7 @@ returns-in-Err-Memory-clause-ran g c =
       refl,
       refuses-none g.P.PatternMaker.makes _ c.args.patterns.now c.args.patterns.now,
       starved_runs false (map string_bytes c.args.words.now) (edges g.S.Source.left g.S.Source.faults g.K.Sink.taken g.K.Sink.faults g.C.Clock.moments g.D.Device c.args.source.now c.args.sink.now c.args.clock.now c.args.disk),
+      record { fit = λ told. tt; closed = λ told. tt },
     )
 
 pub returns-in-Err-Memory-clause-recovers : goal.returns-in-Err-Memory-clause-recovers
