@@ -1,5 +1,6 @@
 -- What serving clients comes to over a core that was opened, and what its words ask.
-use Rattle.std.proofs.Common.{◌≡◌, ◌⊎◌, inl, inr, ◌∙◌, true, false, ℕ, ◌+◌, ◌*◌, ◌^◌, ◌≤◌, List, [], ◌∷◌, ◌++◌, Option, Some, ap, append-nil, arith, length, length-append, refl, subst, sym}
+use Rattle.std.proofs.Common.{◌≡◌, ◌⊎◌, inl, inr, ◌∙◌, true, false, ℕ, ◌+◌, ◌*◌, ◌^◌, ◌≤◌, List, [], ◌∷◌, ◌++◌, Option, Some, Result, Ok, ap, append-nil, arith, length, length-append, refl, subst, sym}
+use Rattle.std.specs.Prelude.{IfOk}
 use Rattle.client_scripts.specs.Served.{HasServed}
 use Rattle.client_scripts.specs.declared.script.Answered.{Answered}
 use Rattle.command_words.specs.Commands.{Alone, Command, Drill, Ingest, Serve, Session, Spells, command_of, serve}
@@ -198,6 +199,10 @@ module _ {D : Type 0} (g : Ghosts D) (clients rounds : ℕ) (core : Core D) (old
           (λ text source. inl (asks_all clients rounds told text left between to_tell scripts blamed (dealt text source) e all cuts are_cuts is clock no_source));
       ends = ends;
     }
+
+-- what holds of what was handed over
+pub of_ok : {A E : Type 0} (r : Result A E) (P : A → Type 0) (a : A) → r ≡ Ok a → IfOk r P → P a
+of_ok {A} {E} r P a is held = subst (λ (x : Result A E). IfOk x P) is held
 
 -- Two scripts more are few.
 pub few_scripts : (scripts all : List (List Item)) (cuts joins : List Item) → all ≡ scripts ++ cuts ∷ joins ∷ [] → length scripts ≤ 16 → length all ≤ 2 ^ 31

@@ -1,9 +1,9 @@
-use Rattle.std.proofs.Common.{◌≡◌, ◌≤◌, inl, inr, ℕ, List, Option, Some, Ok, Err, ap, length-map, refl, subst, sym}
-use Rattle.std.specs.Prelude.{MatchResult}
+use Rattle.std.proofs.Common.{◌≡◌, ◌≤◌, inl, inr, ℕ, List, ap, length, length-map, refl, subst, sym}
+use Rattle.std.specs.Prelude.{MatchResult, OnErr}
 use Rattle.client_scripts.specs.declared.script.Answered.{Answered}
 use Rattle.session_meaning.specs.ServedRuns.{EndsServing}
 use Rattle.trace_shell.specs.Dealing.{HasDealt, HasStopped, scripts_in}
-use Rattle.trace_shell.proofs.ServingLemmas.{came_asked, came_starved, came_stopped, few_scripts, needs_no_source}
+use Rattle.trace_shell.proofs.ServingLemmas.{came_asked, came_starved, came_stopped, few_scripts, needs_no_source, of_ok}
 use Rattle.trace_shell.proofs.serving.serve.Goals as goal
 
 pub returns-in-Err-clause-came : goal.returns-in-Err-clause-came
@@ -40,12 +40,12 @@ returns-in_default-clause-came g c =
 
 pub run_scripts-core-requires-clause-few : goal.run_scripts-core-requires-clause-few
 run_scripts-core-requires-clause-few g c κs within =
-    let all = c.in-Ok-scripts.ensures.all in
+    let all = c.in-Ok-with_upkeep.ensures.all in
     let few : length c.in-Ok.scripts.items ≤ 16 = subst (λ (n : ℕ). n ≤ 16) (sym c.in-Ok.ensures.as_many) c.requires.few in
-    few_scripts (scripts_in c.in-Ok.scripts.items) c.in-Ok-scripts.scripts.items all.0 _ all.2 (subst (λ (n : ℕ). n ≤ 16) (sym (length-map c.in-Ok.scripts.items _)) few)
+    few_scripts (scripts_in c.in-Ok.scripts.items) c.in-Ok-with_upkeep.scripts.items all.0 _ all.2 (subst (λ (n : ℕ). n ≤ 16) (sym (length-map c.in-Ok.scripts.items _)) few)
 
-pub returns-in_default-2-clause-came : goal.returns-in_default-2-clause-came
-returns-in_default-2-clause-came g c =
+pub returns-in_default-answers-clause-came : goal.returns-in_default-answers-clause-came
+returns-in_default-answers-clause-came g c =
     let dealt = c.read_scripts.ensures.dealt in
     let told = g.C.Clock.moments c.args.clock.now in
     let between = g.C.Clock.moments c.read_scripts.new.clock in
@@ -58,7 +58,8 @@ returns-in_default-2-clause-came g c =
           (λ text is.
           subst (λ r. MatchResult r (λ scripts. HasDealt c.args.clients told text between (scripts_in scripts.items) dealt.0)
           (λ ending. HasStopped c.args.clients told text left between ending dealt.0)) c.in-Ok.is (dealt.2 text is))
-          c.run_scripts-core.result.0 c.in_default-2.ensures.refused (inr c.in-Ok-scripts.ensures.clock),
+          c.run_scripts-core.result.0
+          (subst (λ r. OnErr r (c.run_scripts-core.result.0 ≡ c.args.core)) c.in_default-answers.is c.run_scripts-core.ensures.refused) (inr c.in-Ok-with_upkeep.ensures.clock),
     )
 
 pub returns-clause-came : goal.returns-clause-came
@@ -70,15 +71,17 @@ returns-clause-came g c =
     let left = g.S.Source.left c.read_scripts.new.source in
     let old = g.K.Sink.taken c.args.sink.now in
     let new = g.K.Sink.taken c.write_all-ending.new.sink in
-    let all = c.in-Ok-scripts.ensures.all in
-    let served = c.in-Ok-answers.ensures.served in (
+    let all = c.in-Ok-with_upkeep.ensures.all in
+    let later = c.run_scripts-core.result.0 in
+    let scripts = c.in-Ok-with_upkeep.scripts.items in
+    let served = of_ok c.run_scripts-core.result.1 _ c.in-Ok-answers.answers c.in-Ok-answers.is c.run_scripts-core.ensures.served in (
       dealt.0,
       dealt.1,
       came_asked g.D.Device c.args.clients c.args.rounds c.args.core (g.S.Source.left c.args.source.now) left old told between to_tell (scripts_in c.in-Ok.scripts.items) dealt.0
           (λ text is.
           subst (λ r. MatchResult r (λ scripts. HasDealt c.args.clients told text between (scripts_in scripts.items) dealt.0)
           (λ ending. HasStopped c.args.clients told text left between ending dealt.0)) c.in-Ok.is (dealt.2 text is))
-          c.run_scripts-core.result.0 new c.write_all-ending.result c.in-Ok-scripts.scripts.items all.0 c.in-Ok-answers.answers.items served.0 all.1 all.2 c.in-Ok-scripts.ensures.clock served.2
-          (subst (λ (answers : List Answered). EndsServing c.write_all-ending.result answers old new) c.as_slice.ensures c.write_all-ending.ensures.ends)
+          later new c.write_all-ending.result scripts all.0 c.in-Ok-answers.answers.items served.0 all.1 all.2 c.in-Ok-with_upkeep.ensures.clock served.2
+          (subst (λ (answers : List Answered). EndsServing c.write_all-ending.result answers old new) c.as_slice.ensures.value c.write_all-ending.ensures.ends)
           (needs_no_source c.write_all-ending.result c.write_all-ending.ensures.endings),
     )
