@@ -19,7 +19,7 @@ use Rattle.session_meaning.specs.Serving.{AreCuts, after_moments, compactions}
 use Rattle.trace_shell.specs.Dealing.{HasDealt, HasStopped, IsEarly}
 use Rattle.trace_shell.specs.Serving.{CameServing}
 use Rattle.trace_shell.proofs.RunLemmas.{if_some}
-use Rattle.trace_shell.proofs.WritingLemmas.{prefix_none}
+use Rattle.trace_shell.proofs.WritingLemmas.{starved_ends}
 
 -- ---- words
 
@@ -56,7 +56,7 @@ none_served meaning old new same = record {
 pub ends_early : (e : Ending) (old : Option (List ℕ)) → IsEarly e → EndsServing e [] old old
 ends_early e old (inl is) = subst (λ (x : Ending). EndsServing x [] old old) (sym is) refl
 ends_early e old (inr (inl is)) = subst (λ (x : Ending). EndsServing x [] old old) (sym is) refl
-ends_early e old (inr (inr is)) = subst (λ (x : Ending). EndsServing x [] old old) (sym is) (inr (prefix_none old []))
+ends_early e old (inr (inr is)) = subst (λ (x : Ending). EndsServing x [] old old) (sym is) (starved_ends old [])
 
 module _ (clients rounds : ℕ) (told : Option (List ℕ)) (text : List ℕ) where
   pub asks_stopped : (left to_tell : Option (List ℕ)) (e : Ending) (blamed : List (List ℕ)) → IsEarly e → HasStopped clients told text left to_tell e blamed

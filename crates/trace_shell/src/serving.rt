@@ -17,7 +17,7 @@ ghost use Rattle.store_images.specs.Stored.{IsSoundImage};
 ghost use Rattle.session_meaning.specs.declared.ending.Ending.TheVariants.{NotOpened, ReadFault, Spent, WriteFault};
 ghost use Rattle.session_meaning.specs.Runs.{IsPastOpening, IsRunOf, Outcome, edges};
 ghost use Rattle.session_meaning.specs.ServedRuns.{EndsServing, IsServedRun, RecoversServed, Served, ServesAs, all_replies};
-ghost use Rattle.session_meaning.specs.Serving.{replies_to, reply_to, served_text};
+ghost use Rattle.session_meaning.specs.Serving.{reply_to, served_texts, texts_to};
 ghost use Rattle.session_meaning.specs.Stops.{Recovers};
 ghost use Rattle.traceql_types.specs.Makers.{RefusesOnly};
 ghost use Rattle.trace_shell.specs.Serving.{CameServing, HaveBeenGiven};
@@ -245,7 +245,7 @@ fn write_answers<K: Sink>(
     answers: &[Answered],
 ) -> Option<Ending>
     ensures given { HaveBeenGiven (K.taken sink.old) (K.taken sink.new) tally.old tally.new
-        (all_replies answers.now) (served_text 0 answers.now) result }
+        (all_replies answers.now) (served_texts 0 answers.now) result }
     ensures sink_counted { K.faults sink.old ≤ K.faults sink.new }
     ensures write_fault { IfSome result (λ ending. ending ≡ WriteFault
         → Rose (K.faults sink.old) (K.faults sink.new)) }
@@ -268,7 +268,7 @@ fn write_replies<K: Sink>(
     replies: &[Reply],
 ) -> Option<Ending>
     ensures given { HaveBeenGiven (K.taken sink.old) (K.taken sink.new) tally.old tally.new
-        replies.now (replies_to client replies.now) result }
+        replies.now (texts_to client replies.now) result }
     ensures sink_counted { K.faults sink.old ≤ K.faults sink.new }
     ensures write_fault { IfSome result (λ ending. ending ≡ WriteFault
         → Rose (K.faults sink.old) (K.faults sink.new)) }
@@ -290,7 +290,7 @@ fn write_to<K: Sink>(
     reply: &Reply,
 ) -> Option<Ending>
     ensures given { HaveBeenGiven (K.taken sink.old) (K.taken sink.new) tally.old tally.new
-        (reply.now ∷ []) (reply_to client reply.now) result }
+        (reply.now ∷ []) (reply_to client reply.now ∷ []) result }
     ensures sink_counted { K.faults sink.old ≤ K.faults sink.new }
     ensures write_fault { IfSome result (λ ending. ending ≡ WriteFault
         → Rose (K.faults sink.old) (K.faults sink.new)) }
