@@ -15,6 +15,7 @@ use Rattle.session_meaning.specs.declared.ending.Ending.{Ending}
 use Rattle.session_meaning.specs.declared.ending.Ending.TheVariants.{ReadFault, Spent, Starved}
 use Rattle.session_meaning.specs.Asked.{IsNextMoment, after_lines, after_moment}
 use Rattle.session_meaning.specs.Serving.{AreDealt, Dealt, IsDealt, asks, of_nobody, script_of, scripts_of, too_long}
+use Rattle.store_model.proofs.Numbers.{equal_itself, same_number}
 use Rattle.session_meaning.proofs.SessionLaws.{after_empty, after_line}
 use Rattle.trace_shell.specs.Dealing.{DealtOn, HasDealt, HasStopped, IsDealingAt, IsEarly, IsGiven, scripts_in}
 use Rattle.trace_shell.specs.Ingesting.{HasReadTo, IsReadingAt, ending_in}
@@ -89,22 +90,12 @@ script_its one client is = rw is refl
 script_not : (one : Dealt) (client : ℕ) → (one.client == client) ≡ false → script_of (one ∷ []) client ≡ []
 script_not one client is = rw is refl
 
-equals_itself : (n : ℕ) → (n == n) ≡ true
-equals_itself zero = refl
-equals_itself (suc n) = equals_itself n
-
 by_test : (a b : ℕ) (P : Type 0) → ((a == b) ≡ false → P) → (a ≡ b → P) → P
-by_test a b P no yes = go (a == b) refl
+by_test a b P differ same = go (a == b) refl
   where
-    same : (a b : ℕ) → (a == b) ≡ true → a ≡ b
-    same zero zero is = refl
-    same zero (suc b) is = let bad : ⊥ = cc in absurd bad
-    same (suc a) zero is = let bad : ⊥ = cc in absurd bad
-    same (suc a) (suc b) is = ap suc (same a b is)
-
     go : (t : Bool) → (a == b) ≡ t → P
-    go true is = yes (same a b is)
-    go false is = no is
+    go true is = same (same_number a b is)
+    go false is = differ is
 
 -- The scripts after one more line: its client's has one more item.
 pub scripts_given : (clients : ℕ) (dealt : List Dealt) (one : Dealt) → one.client < clients
@@ -116,13 +107,13 @@ scripts_given clients dealt one within =
     (λ k not. other k (λ is. not (sym is ∙ sym here)))
     (ap (script_of (dealt ++ one ∷ [])) here
     ∙ script_split dealt one one.client
-    ∙ ap (λ (t : List Item). script_of dealt one.client ++ t) (script_its one one.client (equals_itself one.client))
+    ∙ ap (λ (t : List Item). script_of dealt one.client ++ t) (script_its one one.client (equal_itself one.client))
     ∙ ap (λ (s : List Item). s ++ one.item ∷ []) (sym was))
   where
     other : (k : ℕ) → (one.client ≡ k → ⊥) → script_of (dealt ++ one ∷ []) k ≡ script_of dealt k
     other k not =
         by_test one.client k (script_of (dealt ++ one ∷ []) k ≡ script_of dealt k)
-        (λ no. script_split dealt one k ∙ ap (λ (t : List Item). script_of dealt k ++ t) (script_not one k no) ∙ append-nil (script_of dealt k))
+        (λ differ. script_split dealt one k ∙ ap (λ (t : List Item). script_of dealt k ++ t) (script_not one k differ) ∙ append-nil (script_of dealt k))
         (λ is. absurd (not is))
 
 -- Before any line no client asks anything.

@@ -285,6 +285,7 @@ pub(crate) fn with_upkeep<C: Clock>(
 fn add(all: &mut Scripts, script: Vec<Item>)
     requires { vec_len all.old < vec_capacity all.old }
     ensures added { all.new.items ≡ all.old.items ++ script.items ∷ [] }
+    ensures longer { vec_len all.new ≡ vec_len all.old + 1 }
     ensures room { vec_capacity all.old ≤ vec_capacity all.new }
 {
     let Ok(()) = all.push(Seq::of(script)) else {
@@ -326,6 +327,7 @@ fn compact_and_reclaim<C: Clock>(items: &mut Vec<Item>, rounds: u32, clock: &mut
 fn put(items: &mut Vec<Item>, request: Request)
     requires { vec_len items.old < vec_capacity items.old }
     ensures put { items.new.items ≡ items.old.items ++ Ok request ∷ [] }
+    ensures longer { vec_len items.new ≡ vec_len items.old + 1 }
     ensures room { vec_capacity items.old ≤ vec_capacity items.new }
 {
     let Ok(()) = items.push(Ok(request)) else {

@@ -1,4 +1,4 @@
-use Rattle.std.proofs.Common.{Err, List, ap, refl, sym, subst, ℕ}
+use Rattle.std.proofs.Common.{◌≡◌, [], Err, ap, refl, sym, subst}
 use Rattle.io_edges.specs.Reader.{Answers, IsNextLine, IsToRead, IsWithinLimits, WouldAsk}
 use Rattle.io_edges.specs.Lines.{taken_limit}
 use Rattle.span_types.specs.Faults.{Rose}
@@ -38,9 +38,9 @@ returns-in-Whole-clause-spent g c = turn_not_spent c.deal_line.result c.deal_lin
 
 pub returns-in-TooLong-clause-dealt : goal.returns-in-TooLong-clause-dealt
 returns-in-TooLong-clause-dealt g c =
-    long_deals c.args.clients (λ more. RefusesOnly g.P.PatternMaker.makes c.args.patterns.now c.args.patterns.now more) _ _ _ _ _ _ _ _ c.give.result c.in-TooLong.length c.now-_moment.result c.requires.one
+    long_deals c.args.clients (λ more. RefusesOnly g.P.PatternMaker.makes c.args.patterns.now c.args.patterns.now more) _ _ _ _ _ _ _ _ c.give.result c.in-TooLong.length c.now-moment.result c.requires.one
     (subst (λ l. IsWithinLimits l c.next.new.self.taken) c.in-TooLong.is c.in-Ok.ensures.limits)
-    (refuses-none g.P.PatternMaker.makes _ c.args.patterns.now c.args.patterns.now) c.now-_moment.ensures.moment c.now-_moment.ensures.later c.give.ensures.given
+    (refuses-none g.P.PatternMaker.makes _ c.args.patterns.now c.args.patterns.now) c.now-moment.ensures.moment c.now-moment.ensures.later c.give.ensures.given
     (λ rest to_read. subst (λ l. Answers l rest (IsToRead c.next.new.self (g.S.Source.left c.next.new.source))) c.in-TooLong.is (c.in-Ok.ensures.line rest to_read))
     c.next.ensures.took
 
@@ -55,34 +55,34 @@ returns-in-TooLong-clause-spent g c = turn_not_spent c.give.result c.give.ensure
 
 pub returns-in-End-clause-dealt : goal.returns-in-End-clause-dealt
 returns-in-End-clause-dealt g c =
-    idle_deals c.args.clients (λ more. RefusesOnly g.P.PatternMaker.makes c.args.patterns.now c.args.patterns.now more) _ (g.S.Source.left c.next.new.source) _ _ _ c.next.new.self _ _ End
+    idle_deals c.args.clients (λ more. RefusesOnly g.P.PatternMaker.makes c.args.patterns.now c.args.patterns.now more) (g.S.Source.left c.args.source.now) (g.S.Source.left c.next.new.source) (g.C.Clock.moments c.args.clock.now) (g.C.Clock.moments c.args.clock.now) c.args.reader.now c.next.new.self (scripts_in c.args.scripts.now.items) (scripts_in c.args.scripts.now.items) End
     (refuses-none g.P.PatternMaker.makes _ c.args.patterns.now c.args.patterns.now)
     (λ told text blamed at.
     let answers = subst (λ l. Answers l at.at.rest (IsToRead c.next.new.self (g.S.Source.left c.next.new.source))) c.in-End.is (c.in-Ok.ensures.line at.at.rest at.at.to_read) in
     let fewer = subst (λ l. IsWithinLimits l c.next.new.self.taken) c.in-End.is c.in-Ok.ensures.limits in
-    all_dealt c.args.clients told text _ _ _ _ c.next.new.self _ blamed at (reads_all text at.read _ _ _ c.next.new.self at.at answers fewer c.next.ensures.took))
+    all_dealt c.args.clients told text (g.S.Source.left c.args.source.now) (g.S.Source.left c.next.new.source) (g.C.Clock.moments c.args.clock.now) c.args.reader.now c.next.new.self (scripts_in c.args.scripts.now.items) blamed at (reads_all text at.read _ _ _ c.next.new.self at.at answers fewer c.next.ensures.took))
 
 pub returns-in-Spent-clause-dealt : goal.returns-in-Spent-clause-dealt
 returns-in-Spent-clause-dealt g c =
-    idle_deals c.args.clients (λ more. RefusesOnly g.P.PatternMaker.makes c.args.patterns.now c.args.patterns.now more) _ (g.S.Source.left c.next.new.source) _ _ _ c.next.new.self _ _ (Ending Spent)
+    idle_deals c.args.clients (λ more. RefusesOnly g.P.PatternMaker.makes c.args.patterns.now c.args.patterns.now more) (g.S.Source.left c.args.source.now) (g.S.Source.left c.next.new.source) (g.C.Clock.moments c.args.clock.now) (g.C.Clock.moments c.args.clock.now) c.args.reader.now c.next.new.self (scripts_in c.args.scripts.now.items) (scripts_in c.args.scripts.now.items) (Ending Spent)
     (refuses-none g.P.PatternMaker.makes _ c.args.patterns.now c.args.patterns.now)
     (λ told text blamed at.
     let answers = subst (λ l. Answers l at.at.rest (IsToRead c.next.new.self (g.S.Source.left c.next.new.source))) c.in-Spent.is (c.in-Ok.ensures.line at.at.rest at.at.to_read) in
     let all = subst (λ l. IsWithinLimits l c.next.new.self.taken) c.in-Spent.is c.in-Ok.ensures.limits in
     let waiting = subst (λ l. WouldAsk l c.next.new.self) c.in-Spent.is c.in-Ok.ensures.spent in
-    stops_here c.args.clients told text _ _ _ _ c.next.new.self _ blamed at Spent (reads_spent text at.read _ _ _ c.next.new.self at.at all.1 c.next.ensures.took answers waiting))
+    stops_here c.args.clients told text (g.S.Source.left c.args.source.now) (g.S.Source.left c.next.new.source) (g.C.Clock.moments c.args.clock.now) c.args.reader.now c.next.new.self (scripts_in c.args.scripts.now.items) blamed at Spent (reads_spent text at.read _ _ _ c.next.new.self at.at all.1 c.next.ensures.took answers waiting))
 
 pub returns-in-Err-Fault-clause-dealt : goal.returns-in-Err-Fault-clause-dealt
 returns-in-Err-Fault-clause-dealt g c =
-    idle_deals c.args.clients (λ more. RefusesOnly g.P.PatternMaker.makes c.args.patterns.now c.args.patterns.now more) _ (g.S.Source.left c.next.new.source) _ _ _ c.next.new.self _ _ (Ending ReadFault)
+    idle_deals c.args.clients (λ more. RefusesOnly g.P.PatternMaker.makes c.args.patterns.now c.args.patterns.now more) (g.S.Source.left c.args.source.now) (g.S.Source.left c.next.new.source) (g.C.Clock.moments c.args.clock.now) (g.C.Clock.moments c.args.clock.now) c.args.reader.now c.next.new.self (scripts_in c.args.scripts.now.items) (scripts_in c.args.scripts.now.items) (Ending ReadFault)
     (refuses-none g.P.PatternMaker.makes _ c.args.patterns.now c.args.patterns.now)
     (λ told text blamed at.
-    stops_here c.args.clients told text _ _ _ _ c.next.new.self _ blamed at ReadFault
+    stops_here c.args.clients told text (g.S.Source.left c.args.source.now) (g.S.Source.left c.next.new.source) (g.C.Clock.moments c.args.clock.now) c.args.reader.now c.next.new.self (scripts_in c.args.scripts.now.items) blamed at ReadFault
     (reads_failed text at.read _ _ _ c.next.new.self at.at (c.in-Err-Fault.ensures.stands at.at.rest at.at.to_read) (c.in-Err-Fault.ensures.waiting (ap Err c.in-Err-Fault.field-0-is))))
 
 pub returns-in-Err-Memory-clause-dealt : goal.returns-in-Err-Memory-clause-dealt
 returns-in-Err-Memory-clause-dealt g c =
-    idle_deals c.args.clients (λ more. RefusesOnly g.P.PatternMaker.makes c.args.patterns.now c.args.patterns.now more) _ (g.S.Source.left c.next.new.source) _ _ _ c.next.new.self _ _ (Ending Starved)
+    idle_deals c.args.clients (λ more. RefusesOnly g.P.PatternMaker.makes c.args.patterns.now c.args.patterns.now more) (g.S.Source.left c.args.source.now) (g.S.Source.left c.next.new.source) (g.C.Clock.moments c.args.clock.now) (g.C.Clock.moments c.args.clock.now) c.args.reader.now c.next.new.self (scripts_in c.args.scripts.now.items) (scripts_in c.args.scripts.now.items) (Ending Starved)
     (refuses-none g.P.PatternMaker.makes _ c.args.patterns.now c.args.patterns.now)
     (λ told text blamed at.
-    stops_here c.args.clients told text _ _ _ _ c.next.new.self _ blamed at Starved (reads_starved text at.read _ (g.S.Source.left c.next.new.source) _ at.at))
+    stops_here c.args.clients told text (g.S.Source.left c.args.source.now) (g.S.Source.left c.next.new.source) (g.C.Clock.moments c.args.clock.now) c.args.reader.now c.next.new.self (scripts_in c.args.scripts.now.items) blamed at Starved (reads_starved text at.read _ (g.S.Source.left c.next.new.source) _ at.at))

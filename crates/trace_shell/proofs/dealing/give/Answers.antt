@@ -1,5 +1,7 @@
-use Rattle.std.proofs.Common.{[], refl}
+use Rattle.std.proofs.Common.{refl}
+use Rattle.trace_shell.proofs.DealingLemmas.{put_one}
 use Rattle.trace_shell.proofs.dealing.give.Goals as goal
 
 pub returns-in-Ok-clause-given : goal.returns-in-Ok-clause-given
-returns-in-Ok-clause-given c = ?
+returns-in-Ok-clause-given c =
+    put_one c.args.scripts.now.items _ c.args.client c.index_mut-script.result.now c.push.new.self c.args.item c.requires c.index_mut-script.ensures.value refl c.in-Ok.ensures.items
