@@ -1,4 +1,5 @@
-use Rattle.std.proofs.Common.{◌≡◌, ◌≤◌, inl, inr, ℕ, List, ap, length, length-map, refl, subst, sym}
+use Rattle.std.proofs.Common.{◌≡◌, ◌≤◌, ◌^◌, ◌∙◌, inl, inr, ℕ, List, ap, length, refl, subst, sym}
+use Rattle.std.proofs.lemmas.List.{length-map}
 use Rattle.std.specs.Prelude.{MatchResult, OnErr}
 use Rattle.client_scripts.specs.declared.script.Answered.{Answered}
 use Rattle.session_meaning.specs.ServedRuns.{EndsServing}
@@ -40,9 +41,12 @@ returns-in_default-clause-came g c =
 
 pub run_scripts-core-requires-clause-few : goal.run_scripts-core-requires-clause-few
 run_scripts-core-requires-clause-few g c κs within =
-    let all = c.in-Ok-with_upkeep.ensures.all in
-    let few : length c.in-Ok.scripts.items ≤ 16 = subst (λ (n : ℕ). n ≤ 16) (sym c.in-Ok.ensures.as_many) c.requires.few in
-    few_scripts (scripts_in c.in-Ok.scripts.items) c.in-Ok-with_upkeep.scripts.items all.0 _ all.2 (subst (λ (n : ℕ). n ≤ 16) (sym (length-map c.in-Ok.scripts.items _)) few)
+    let scripts = c.in-Ok.scripts in
+    let all = c.in-Ok-with_upkeep.scripts in
+    let is = c.in-Ok-with_upkeep.ensures.all in
+    let few : length scripts.items ≤ 16 = subst (λ (n : ℕ). n ≤ 16) (sym c.in-Ok.ensures.as_many ∙ scripts.ok.0) c.requires.few in
+    subst (λ (n : ℕ). n ≤ 2 ^ 31) (sym all.ok.0)
+    (few_scripts (scripts_in scripts.items) all.items is.0 _ is.2 (subst (λ (n : ℕ). n ≤ 16) (sym (length-map scripts.items _)) few))
 
 pub returns-in_default-answers-clause-came : goal.returns-in_default-answers-clause-came
 returns-in_default-answers-clause-came g c =

@@ -45,7 +45,7 @@ returns-in-Ok-clause-ran g c =
 pub returns-in-Ok-clause-recovers : goal.returns-in-Ok-clause-recovers
 returns-in-Ok-clause-recovers g c = λ told sound.
     let d = g.D.Device in
-    let met = g.met.D.Device in
+    let met = g.met.D.Device g.world.𝓛 g.world.𝓜 g.world.𝓡 ((λ s x. x), (λ x. x), (λ x. x), λ x. x) in
     let disk = c.args.disk in
     let core = c.in-Ok.core in
     let later = c.serve-ending.result.1 in

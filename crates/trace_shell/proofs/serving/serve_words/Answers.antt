@@ -1,4 +1,4 @@
-use Rattle.std.proofs.Common.{◌≡◌, ⊎_elim, Err, ap, inl, inr, map, refl, string_bytes, subst, ◌∙◌}
+use Rattle.std.proofs.Common.{◌≡◌, ⊎_elim, true, false, Err, ap, inl, inr, map, refl, string_bytes, subst, ◌∙◌}
 use Rattle.command_words.specs.Commands.{Serve, Spells, command_of}
 use Rattle.command_words.specs.declared.asked.Asked.{Asked}
 use Rattle.command_words.proofs.Spelled.{begins_serves, spelled_clean}
@@ -71,7 +71,7 @@ returns-in-Err-Refused-clause-recovers g c = λ told sound.
       refuses-none g.P.PatternMaker.makes _ c.args.patterns.now c.args.patterns.now,
       refused_runs true (map string_bytes c.args.words.now) (edges g.S.Source.left g.S.Source.faults g.K.Sink.taken g.K.Sink.faults g.C.Clock.moments g.D.Device c.args.source.now c.args.sink.now c.args.clock.now c.args.disk)
           (c.read_words.ensures.refused (c.in-Err-Refused.is ∙ ap Err c.in-Err-Refused.field-0-is)),
-      untouched_recovers g.D.Device g.met.D.Device.only_now c.args.disk BadWords,
+      untouched_recovers g.D.Device (g.met.D.Device g.world.𝓛 g.world.𝓜 g.world.𝓡 ((λ s x. x), (λ x. x), (λ x. x), λ x. x)).only_now c.args.disk BadWords,
     )
 
 pub returns-in-Err-Memory-clause-ran : goal.returns-in-Err-Memory-clause-ran
@@ -91,11 +91,11 @@ returns-in-Err-Memory-clause-recovers g c = λ told sound.
       refl,
       refuses-none g.P.PatternMaker.makes _ c.args.patterns.now c.args.patterns.now,
       starved_runs true (map string_bytes c.args.words.now) (edges g.S.Source.left g.S.Source.faults g.K.Sink.taken g.K.Sink.faults g.C.Clock.moments g.D.Device c.args.source.now c.args.sink.now c.args.clock.now c.args.disk),
-      untouched_recovers g.D.Device g.met.D.Device.only_now c.args.disk Starved,
+      untouched_recovers g.D.Device (g.met.D.Device g.world.𝓛 g.world.𝓜 g.world.𝓡 ((λ s x. x), (λ x. x), (λ x. x), λ x. x)).only_now c.args.disk Starved,
     )
 
 pub returns-in-Err-Refused-clause-left : goal.returns-in-Err-Refused-clause-left
-returns-in-Err-Refused-clause-left g c = λ told file at breaks other. left_same g.D.Device g.met.D.Device.only_now c.args.disk
+returns-in-Err-Refused-clause-left g c = λ told file at breaks other. left_same g.D.Device (g.met.D.Device g.world.𝓛 g.world.𝓜 g.world.𝓡 ((λ s x. x), (λ x. x), (λ x. x), λ x. x)).only_now c.args.disk
 
 pub returns-in-Err-Memory-clause-left : goal.returns-in-Err-Memory-clause-left
-returns-in-Err-Memory-clause-left g c = λ told file at breaks other. left_same g.D.Device g.met.D.Device.only_now c.args.disk
+returns-in-Err-Memory-clause-left g c = λ told file at breaks other. left_same g.D.Device (g.met.D.Device g.world.𝓛 g.world.𝓜 g.world.𝓡 ((λ s x. x), (λ x. x), (λ x. x), λ x. x)).only_now c.args.disk

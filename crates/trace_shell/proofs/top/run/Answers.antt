@@ -4,11 +4,11 @@ use Rattle.trace_shell.proofs.RunLemmas.{ended_before}
 use Rattle.trace_shell.proofs.ServingLemmas.{serving_reads}
 use Rattle.trace_shell.proofs.top.run.Goals as goal
 
-pub returns-then-asks_to_serve-clause-ran : goal.returns-then-asks_to_serve-clause-ran
-returns-then-asks_to_serve-clause-ran g c = inl c.run_alone.ensures.ran
+pub returns-then-not-asks_to_serve-clause-ran : goal.returns-then-not-asks_to_serve-clause-ran
+returns-then-not-asks_to_serve-clause-ran g c = inl c.run_alone.ensures.ran
 
-pub returns-then-asks_to_serve-clause-recovers : goal.returns-then-asks_to_serve-clause-recovers
-returns-then-asks_to_serve-clause-recovers g c = λ told sound. inl (c.run_alone.ensures.recovers told sound)
+pub returns-then-not-asks_to_serve-clause-recovers : goal.returns-then-not-asks_to_serve-clause-recovers
+returns-then-not-asks_to_serve-clause-recovers g c = λ told sound. inl (c.run_alone.ensures.recovers told sound)
 
 pub returns-clause-ran : goal.returns-clause-ran
 returns-clause-ran g c =
@@ -28,4 +28,4 @@ returns-clause-unread g c = λ early. c.serve_words-ending.ensures.unread (ended
 
 pub returns-clause-alone : goal.returns-clause-alone
 returns-clause-alone g c = λ asks takes spells.
-    absurd (serving_reads (map string_bytes c.args.words.now) asks spells (sym c.asks_to_serve.ensures ∙ c.if-asks_to_serve.true) takes)
+    absurd (serving_reads (map string_bytes c.args.words.now) asks spells (sym c.asks_to_serve.ensures ∙ c.if-not-asks_to_serve.false) takes)
