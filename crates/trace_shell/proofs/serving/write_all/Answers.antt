@@ -20,7 +20,7 @@ pub returns-in-Some-clause-endings : goal.returns-in-Some-clause-endings
 returns-in-Some-clause-endings g c =
     let given = subst (λ (o : Option Ending). HaveBeenGiven (g.K.Sink.taken c.args.sink.now) (g.K.Sink.taken c.write_answers.new.sink) c.new-tally.result c.write_answers.new.tally
         (all_replies c.args.answers.now) (served_texts 0 c.args.answers.now) o) c.in-Some.is c.write_answers.ensures.given in
-    cut_by_sink _ _ c.new-tally.result c.write_answers.new.tally _ _ c.in-Some.ending given
+    cut_by_sink _ _ c.new-tally.result c.write_answers.new.tally (all_replies c.args.answers.now) (served_texts 0 c.args.answers.now) c.in-Some.ending given
 
 pub returns-in-None-clause-ends : goal.returns-in-None-clause-ends
 returns-in-None-clause-ends g c =
