@@ -227,7 +227,7 @@ pushed_at told first last scripts answers entries reading moment reply ran this 
       after = at.after;
       parts = at.parts;
       lead = at.lead;
-      answered = (so.answer, so.is, counted_later (is_fault (push_reply so.answer)) at.before.faults at.after.faults at.counted, at.step, at.counted);
+      answered = (so.answer, so.is, (counted_later (is_fault (push_reply so.answer)) at.before.faults at.after.faults at.counted, at.step, at.counted));
     }
 
 pub refused_there : (told : Bool) (first last : At) (scripts : List (List Item)) (answers : List Answered) (entries : List Entry) (reading : Reading) (moment : ℕ) (why : Refusal)
@@ -236,7 +236,8 @@ pub refused_there : (told : Bool) (first last : At) (scripts : List (List Item))
     × HasPushCause why (length reading.batch.spans) before after × (history_of after ≡ history_of before)
 refused_there told first last scripts answers entries reading moment why ran this =
     let at = pushed_at told first last scripts answers entries reading moment (Refused why) ran this in
-    (at.earlier, at.later, at.before, at.after, at.parts, at.lead, refused_for false reading moment at.before at.after why at.answered)
+    let cause = refused_for false reading moment at.before at.after why at.answered in
+    (at.earlier, at.later, at.before, at.after, at.parts, at.lead, cause.0, cause.1)
 
 pub accepted_there : (told : Bool) (first last : At) (scripts : List (List Item)) (answers : List Answered) (entries : List Entry) (reading : Reading) (moment number kept rejected skipped : ℕ)
     → Ran told first scripts answers entries last → WasReplied scripts answers (Ok (request.Push reading moment)) (Pushed number kept rejected skipped)
@@ -244,7 +245,8 @@ pub accepted_there : (told : Bool) (first last : At) (scripts : List (List Item)
     × HasRoomForPush (length reading.batch.spans) before.machine × (number ≡ count_of (history_of before))
 accepted_there told first last scripts answers entries reading moment number kept rejected skipped ran this =
     let at = pushed_at told first last scripts answers entries reading moment (Pushed number kept rejected skipped) ran this in
-    (at.earlier, at.later, at.before, at.parts, at.lead, accepted_with_room false reading moment at.before at.after number kept rejected skipped at.answered)
+    let room = accepted_with_room false reading moment at.before at.after number kept rejected skipped at.answered in
+    (at.earlier, at.later, at.before, at.parts, at.lead, room.0, room.1)
 
 -- ---- one script
 
