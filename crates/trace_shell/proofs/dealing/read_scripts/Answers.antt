@@ -19,7 +19,7 @@ lines-init g c = record {
     [],
     refuses-none g.P.PatternMaker.makes _ c.args.patterns.now c.args.patterns.now,
     dealt_begin c.args.clients (g.C.Clock.moments c.args.clock.now) (g.S.Source.left c.args.source.now) c.new-reader.result (scripts_in c.in-Ok.scripts.items) c.new-reader.ensures.to_read
-    c.new-reader.ensures.taken c.in-Ok.ensures.none,
+        c.new-reader.ensures.taken c.in-Ok.ensures.none,
   );
   as_many = c.in-Ok.ensures.as_many;
   source_counted = omega arith;
