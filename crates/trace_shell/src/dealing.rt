@@ -197,7 +197,7 @@ fn client_of(clients: u32, line: &[u8]) -> Option<(u32, &[u8])>
 
 // A number below 20 in decimal digits that stands before one space, and what follows that.
 fn number_and_rest(line: &[u8]) -> Option<(u32, &[u8])>
-    ensures one { IfSome result (λ found. found.0 < 20) }
+    ensures few { IfSome result (λ found. found.0 < 20) }
     ensures is { IfSome result (λ found. line.now ≡ decimal found.0 ++ 32 ∷ found.1.now) }
     ensures none { IfNone result ((number : ℕ) (rest : List ℕ) → number < 20
         → line.now ≡ decimal number ++ 32 ∷ rest → ⊥) }

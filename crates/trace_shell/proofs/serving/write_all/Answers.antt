@@ -1,6 +1,5 @@
-use Rattle.std.proofs.Common.{◌≡◌, ◌∙◌, None, Option, Some, subst, sym}
+use Rattle.std.proofs.Common.{◌∙◌, Option, subst, sym}
 use Rattle.session_meaning.specs.declared.ending.Ending.{Ending}
-use Rattle.session_meaning.specs.declared.ending.Ending.TheVariants.{ReadFault, Spent, WriteFault}
 use Rattle.session_meaning.specs.ServedRuns.{all_replies}
 use Rattle.session_meaning.specs.Serving.{served_texts}
 use Rattle.trace_shell.specs.Serving.{HaveBeenGiven}

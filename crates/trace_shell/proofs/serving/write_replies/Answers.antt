@@ -1,4 +1,4 @@
-use Rattle.std.proofs.Common.{[], ◌∷◌, ◌<◌, List, None, Option, Some, arith, length, subst, sym}
+use Rattle.std.proofs.Common.{[], ◌∷◌, ◌<◌, List, None, Option, arith, length, subst}
 use Rattle.std.specs.Prelude.{◌≡◌, IfSome}
 use Rattle.std.proofs.lemmas.List.{take_all}
 use Rattle.span_types.specs.Faults.{Rose}
