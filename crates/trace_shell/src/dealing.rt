@@ -245,10 +245,10 @@ fn give(scripts: &mut Vec<Vec<Item>>, client: u32, item: Item) -> After
     ensures turned { (result ≡ After.Line) ⊎ (result ≡ After.Ending Ending.Starved) }
 {
     let script = &mut scripts[client as usize];
-    match script.push(item) {
-        Ok(()) => After::Line,
-        Err(_) => After::Ending(Ending::Starved),
-    }
+    let Ok(()) = script.push(item) else {
+        return After::Ending(Ending::Starved);
+    };
+    After::Line
 }
 
 /// What the clients ask, and behind that two scripts that keep the store up, so many rounds each: one of cuts and

@@ -20,7 +20,7 @@ loop-reply-preserved g c =
     let one =
     subst (λ (o : Option Ending). HaveBeenGiven (g.K.Sink.taken c.loop-reply.sink) (g.K.Sink.taken c.write_to.new.sink) c.loop-reply.tally c.write_to.new.tally (c.reply-item.result ∷ [])
     (reply_to c.args.client c.reply-item.result ∷ []) o) c.in_default.is c.write_to.ensures.given in record {
-      given = reply_more _ _ _ _ _ _ c.args.client c.args.replies.now c.loop-reply.reply-index c.reply-item.result within c.reply-item.is None c.loop-reply.invariant.given one;
+      given = reply_more _ _ _ c.args.tally.now c.loop-reply.tally c.write_to.new.tally c.args.client c.args.replies.now c.loop-reply.reply-index c.reply-item.result within c.reply-item.is None c.loop-reply.invariant.given one;
       sink_counted = omega (arith, c.loop-reply.invariant.sink_counted, c.write_to.ensures.sink_counted);
     }
 
@@ -30,7 +30,7 @@ returns-in-Some-clause-given g c =
     let one =
     subst (λ (o : Option Ending). HaveBeenGiven (g.K.Sink.taken c.loop-reply.sink) (g.K.Sink.taken c.write_to.new.sink) c.loop-reply.tally c.write_to.new.tally (c.reply-item.result ∷ [])
     (reply_to c.args.client c.reply-item.result ∷ []) o) c.in-Some.is c.write_to.ensures.given in
-    reply_cut _ _ _ _ _ _ c.args.client c.args.replies.now c.loop-reply.reply-index c.reply-item.result within c.reply-item.is c.in-Some.ending c.loop-reply.invariant.given one
+    reply_cut _ _ _ c.args.tally.now c.loop-reply.tally c.write_to.new.tally c.args.client c.args.replies.now c.loop-reply.reply-index c.reply-item.result within c.reply-item.is c.in-Some.ending c.loop-reply.invariant.given one
 
 pub returns-clause-given : goal.returns-clause-given
 returns-clause-given g c =
