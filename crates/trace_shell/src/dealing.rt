@@ -197,7 +197,7 @@ fn client_of(clients: u32, line: &[u8]) -> Option<(u32, &[u8])>
 
 // A number below 20 in decimal digits that stands before one space, and what follows that.
 fn number_and_rest(line: &[u8]) -> Option<(u32, &[u8])>
-    ensures one { IfSome result (λ found. found.0 < 20) }
+    ensures few { IfSome result (λ found. found.0 < 20) }
     ensures is { IfSome result (λ found. line.now ≡ decimal found.0 ++ 32 ∷ found.1.now) }
     ensures none { IfNone result ((number : ℕ) (rest : List ℕ) → number < 20
         → line.now ≡ decimal number ++ 32 ∷ rest → ⊥) }
@@ -245,10 +245,10 @@ fn give(scripts: &mut Vec<Vec<Item>>, client: u32, item: Item) -> After
     ensures turned { (result ≡ After.Line) ⊎ (result ≡ After.Ending Ending.Starved) }
 {
     let script = &mut scripts[client as usize];
-    match script.push(item) {
-        Ok(()) => After::Line,
-        Err(_) => After::Ending(Ending::Starved),
-    }
+    let Ok(()) = script.push(item) else {
+        return After::Ending(Ending::Starved);
+    };
+    After::Line
 }
 
 /// What the clients ask, and behind that two scripts that keep the store up, so many rounds each: one of cuts and

@@ -8,7 +8,7 @@ use Rattle.trace_shell.proofs.dealing.compact_and_reclaim.Goals as goal
 pub loop-round-preserved : goal.loop-round-preserved
 loop-round-preserved g c =
     let told = g.C.Clock.moments c.args.clock.now in
-    let n = c.loop-round.round in
+    let n = c.loop-round._round in
     let so_far = c.loop-round.invariant in
     let both = put_both c.loop-round.items.items c.put.new.items.items c.put-in-loop-round.new.items.items (Ok Compact) (Ok Reclaim) c.put.ensures.put c.put-in-loop-round.ensures.put in record {
       compactions = both ∙ ap (λ (xs : List Item). xs ++ Ok Compact ∷ Ok Reclaim ∷ []) so_far.compactions ∙ sym (compactions_more n);

@@ -6,8 +6,8 @@ use Rattle.trace_shell.proofs.dealing.cut_and_flush.Given as goal
 
 abbrev pub invariant-loop-round : goal.invariant-loop-round
 invariant-loop-round g l = record {
-  cuts : AreCuts l.round (g.C.Clock.moments l.fn.clock) l.items.items;
-  clock : g.C.Clock.moments l.clock ≡ after_moments (2 * l.round) (g.C.Clock.moments l.fn.clock);
-  many : vec_len l.items ≡ 2 * l.round;
+  cuts : AreCuts l._round (g.C.Clock.moments l.fn.clock) l.items.items;
+  clock : g.C.Clock.moments l.clock ≡ after_moments (2 * l._round) (g.C.Clock.moments l.fn.clock);
+  many : vec_len l.items ≡ 2 * l._round;
   room : 2 * l.rounds ≤ vec_capacity l.items;
 }

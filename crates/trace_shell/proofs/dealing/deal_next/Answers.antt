@@ -1,4 +1,4 @@
-use Rattle.std.proofs.Common.{◌≡◌, [], Err, ap, refl, sym, subst}
+use Rattle.std.proofs.Common.{◌≡◌, [], Err, ap, sym, subst}
 use Rattle.io_edges.specs.Reader.{Answers, IsNextLine, IsToRead, IsWithinLimits, WouldAsk}
 use Rattle.io_edges.specs.Lines.{taken_limit}
 use Rattle.span_types.specs.Faults.{Rose}

@@ -1,4 +1,3 @@
-use Rattle.std.proofs.Common.{◌∙◌}
 use Rattle.trace_shell.proofs.NumberLemmas.{no_digit, no_second, no_space_behind, none_holds, not_one, one_leads, two_lead}
 use Rattle.trace_shell.proofs.dealing.number_and_rest.Goals as goal
 

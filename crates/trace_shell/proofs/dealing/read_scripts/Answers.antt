@@ -1,11 +1,11 @@
-use Rattle.std.proofs.Common.{[], ◌++◌, arith, refl, subst}
+use Rattle.std.proofs.Common.{[], ◌++◌, arith, subst}
 use Rattle.std.specs.Prelude.{◌≡◌, IfSome}
 use Rattle.span_types.specs.Faults.{Rose}
-use Rattle.io_edges.specs.Lines.{lines, taken_limit}
+use Rattle.io_edges.specs.Lines.{taken_limit}
 use Rattle.io_edges.specs.Reader.{TakesBytes}
 use Rattle.session_meaning.specs.declared.ending.Ending.TheVariants.{ReadFault, Spent}
 use Rattle.traceql_types.proofs.Calls.{refuses-none, refuses-on}
-use Rattle.trace_shell.specs.Dealing.{DealtOn, IsEarly, scripts_in}
+use Rattle.trace_shell.specs.Dealing.{IsEarly, scripts_in}
 use Rattle.trace_shell.specs.Ingesting.{ending_in}
 use Rattle.trace_shell.specs.declared.ingesting.After.TheVariants.{End, Ending, Line}
 use Rattle.trace_shell.proofs.AloneLemmas.{rose_from}
@@ -19,7 +19,7 @@ lines-init g c = record {
     [],
     refuses-none g.P.PatternMaker.makes _ c.args.patterns.now c.args.patterns.now,
     dealt_begin c.args.clients (g.C.Clock.moments c.args.clock.now) (g.S.Source.left c.args.source.now) c.new-reader.result (scripts_in c.in-Ok.scripts.items) c.new-reader.ensures.to_read
-    c.new-reader.ensures.taken c.in-Ok.ensures.none,
+        c.new-reader.ensures.taken c.in-Ok.ensures.none,
   );
   as_many = c.in-Ok.ensures.as_many;
   source_counted = omega arith;

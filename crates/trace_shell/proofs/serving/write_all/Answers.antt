@@ -1,6 +1,5 @@
-use Rattle.std.proofs.Common.{◌≡◌, ◌∙◌, None, Option, Some, subst, sym}
+use Rattle.std.proofs.Common.{◌∙◌, Option, subst, sym}
 use Rattle.session_meaning.specs.declared.ending.Ending.{Ending}
-use Rattle.session_meaning.specs.declared.ending.Ending.TheVariants.{ReadFault, Spent, WriteFault}
 use Rattle.session_meaning.specs.ServedRuns.{all_replies}
 use Rattle.session_meaning.specs.Serving.{served_texts}
 use Rattle.trace_shell.specs.Serving.{HaveBeenGiven}
@@ -13,19 +12,19 @@ returns-then-is_any_starved-clause-ends g c = starved_ends (g.K.Sink.taken c.arg
 pub returns-in-Some-clause-ends : goal.returns-in-Some-clause-ends
 returns-in-Some-clause-ends g c =
     let given = subst (λ (o : Option Ending). HaveBeenGiven (g.K.Sink.taken c.args.sink.now) (g.K.Sink.taken c.write_answers.new.sink) c.new-tally.result c.write_answers.new.tally
-        (all_replies c.args.answers.now) (served_texts 0 c.args.answers.now) o) c.in-Some.is c.write_answers.ensures.given in
+    (all_replies c.args.answers.now) (served_texts 0 c.args.answers.now) o) c.in-Some.is c.write_answers.ensures.given in
     cut_ends _ _ c.args.answers.now c.new-tally.result c.write_answers.new.tally c.in-Some.ending (sym c.is_any_starved.ensures ∙ c.if-is_any_starved.false) given
 
 pub returns-in-Some-clause-endings : goal.returns-in-Some-clause-endings
 returns-in-Some-clause-endings g c =
     let given = subst (λ (o : Option Ending). HaveBeenGiven (g.K.Sink.taken c.args.sink.now) (g.K.Sink.taken c.write_answers.new.sink) c.new-tally.result c.write_answers.new.tally
-        (all_replies c.args.answers.now) (served_texts 0 c.args.answers.now) o) c.in-Some.is c.write_answers.ensures.given in
-    cut_by_sink _ _ c.new-tally.result c.write_answers.new.tally _ _ c.in-Some.ending given
+    (all_replies c.args.answers.now) (served_texts 0 c.args.answers.now) o) c.in-Some.is c.write_answers.ensures.given in
+    cut_by_sink _ _ c.new-tally.result c.write_answers.new.tally (all_replies c.args.answers.now) (served_texts 0 c.args.answers.now) c.in-Some.ending given
 
 pub returns-in-None-clause-ends : goal.returns-in-None-clause-ends
 returns-in-None-clause-ends g c =
     let given = subst (λ (o : Option Ending). HaveBeenGiven (g.K.Sink.taken c.args.sink.now) (g.K.Sink.taken c.write_answers.new.sink) c.new-tally.result c.write_answers.new.tally
-        (all_replies c.args.answers.now) (served_texts 0 c.args.answers.now) o) c.in-None.is c.write_answers.ensures.given in
+    (all_replies c.args.answers.now) (served_texts 0 c.args.answers.now) o) c.in-None.is c.write_answers.ensures.given in
     served_ends _ _ c.args.answers.now c.new-tally.result c.write_answers.new.tally c.ending.result (sym c.is_any_starved.ensures ∙ c.if-is_any_starved.false) c.new-tally.ensures given c.ending.ensures
 
 pub returns-in-None-clause-write_fault : goal.returns-in-None-clause-write_fault

@@ -20,12 +20,12 @@ pub loop-client-preserved : goal.loop-client-preserved
 loop-client-preserved g c =
     let within : c.loop-client.client < length c.args.answers.now = omega arith in
     let those =
-        subst (λ (rs : List Reply). HaveBeenGiven (g.K.Sink.taken c.loop-client.sink) (g.K.Sink.taken c.write_replies.new.sink) c.loop-client.tally c.write_replies.new.tally rs
-        (texts_to c.loop-client.client rs) c.write_replies.result) c.as_slice-replies.ensures.value c.write_replies.ensures.given in
+    subst (λ (rs : List Reply). HaveBeenGiven (g.K.Sink.taken c.loop-client.sink) (g.K.Sink.taken c.write_replies.new.sink) c.loop-client.tally c.write_replies.new.tally rs
+    (texts_to c.loop-client.client rs) c.write_replies.result) c.as_slice-replies.ensures.value c.write_replies.ensures.given in
     let given =
-        subst (λ (o : Option Ending). HaveBeenGiven (g.K.Sink.taken c.loop-client.sink) (g.K.Sink.taken c.write_replies.new.sink) c.loop-client.tally c.write_replies.new.tally c.answered-item.result.replies.items
-        (texts_to c.loop-client.client c.answered-item.result.replies.items) o) c.in_default.is those in record {
-      given = client_more _ _ _ _ _ _ c.args.answers.now c.loop-client.client c.answered-item.result within c.answered-item.is None c.loop-client.invariant.given given;
+    subst (λ (o : Option Ending). HaveBeenGiven (g.K.Sink.taken c.loop-client.sink) (g.K.Sink.taken c.write_replies.new.sink) c.loop-client.tally c.write_replies.new.tally c.index-answers-client.result.replies.items
+    (texts_to c.loop-client.client c.index-answers-client.result.replies.items) o) c.in_default.is those in record {
+      given = client_more _ _ _ c.args.tally.now c.loop-client.tally c.write_replies.new.tally c.args.answers.now c.loop-client.client c.index-answers-client.result within c.index-answers-client.is None c.loop-client.invariant.given given;
       sink_counted = omega (arith, c.loop-client.invariant.sink_counted, c.write_replies.ensures.sink_counted);
     }
 
@@ -33,12 +33,12 @@ pub returns-in-Some-clause-given : goal.returns-in-Some-clause-given
 returns-in-Some-clause-given g c =
     let within : c.loop-client.client < length c.args.answers.now = omega arith in
     let those =
-        subst (λ (rs : List Reply). HaveBeenGiven (g.K.Sink.taken c.loop-client.sink) (g.K.Sink.taken c.write_replies.new.sink) c.loop-client.tally c.write_replies.new.tally rs
-        (texts_to c.loop-client.client rs) c.write_replies.result) c.as_slice-replies.ensures.value c.write_replies.ensures.given in
+    subst (λ (rs : List Reply). HaveBeenGiven (g.K.Sink.taken c.loop-client.sink) (g.K.Sink.taken c.write_replies.new.sink) c.loop-client.tally c.write_replies.new.tally rs
+    (texts_to c.loop-client.client rs) c.write_replies.result) c.as_slice-replies.ensures.value c.write_replies.ensures.given in
     let given =
-        subst (λ (o : Option Ending). HaveBeenGiven (g.K.Sink.taken c.loop-client.sink) (g.K.Sink.taken c.write_replies.new.sink) c.loop-client.tally c.write_replies.new.tally c.answered-item.result.replies.items
-        (texts_to c.loop-client.client c.answered-item.result.replies.items) o) c.in-Some.is those in
-    client_cut _ _ _ _ _ _ c.args.answers.now c.loop-client.client c.answered-item.result within c.answered-item.is c.in-Some.ending c.loop-client.invariant.given given
+    subst (λ (o : Option Ending). HaveBeenGiven (g.K.Sink.taken c.loop-client.sink) (g.K.Sink.taken c.write_replies.new.sink) c.loop-client.tally c.write_replies.new.tally c.index-answers-client.result.replies.items
+    (texts_to c.loop-client.client c.index-answers-client.result.replies.items) o) c.in-Some.is those in
+    client_cut _ _ _ c.args.tally.now c.loop-client.tally c.write_replies.new.tally c.args.answers.now c.loop-client.client c.index-answers-client.result within c.index-answers-client.is c.in-Some.ending c.loop-client.invariant.given given
 
 pub returns-clause-given : goal.returns-clause-given
 returns-clause-given g c =

@@ -1,4 +1,4 @@
-use Rattle.std.proofs.Common.{[], ◌∷◌, ◌<◌, List, None, Option, Some, arith, length, subst, sym}
+use Rattle.std.proofs.Common.{[], ◌∷◌, ◌<◌, List, None, Option, arith, length, subst}
 use Rattle.std.specs.Prelude.{◌≡◌, IfSome}
 use Rattle.std.proofs.lemmas.List.{take_all}
 use Rattle.span_types.specs.Faults.{Rose}
@@ -18,9 +18,9 @@ pub loop-reply-preserved : goal.loop-reply-preserved
 loop-reply-preserved g c =
     let within : c.loop-reply.reply-index < length c.args.replies.now = omega arith in
     let one =
-        subst (λ (o : Option Ending). HaveBeenGiven (g.K.Sink.taken c.loop-reply.sink) (g.K.Sink.taken c.write_to.new.sink) c.loop-reply.tally c.write_to.new.tally (c.reply-item.result ∷ [])
-        (reply_to c.args.client c.reply-item.result ∷ []) o) c.in_default.is c.write_to.ensures.given in record {
-      given = reply_more _ _ _ _ _ _ c.args.client c.args.replies.now c.loop-reply.reply-index c.reply-item.result within c.reply-item.is None c.loop-reply.invariant.given one;
+    subst (λ (o : Option Ending). HaveBeenGiven (g.K.Sink.taken c.loop-reply.sink) (g.K.Sink.taken c.write_to.new.sink) c.loop-reply.tally c.write_to.new.tally (c.reply-item.result ∷ [])
+    (reply_to c.args.client c.reply-item.result ∷ []) o) c.in_default.is c.write_to.ensures.given in record {
+      given = reply_more _ _ _ c.args.tally.now c.loop-reply.tally c.write_to.new.tally c.args.client c.args.replies.now c.loop-reply.reply-index c.reply-item.result within c.reply-item.is None c.loop-reply.invariant.given one;
       sink_counted = omega (arith, c.loop-reply.invariant.sink_counted, c.write_to.ensures.sink_counted);
     }
 
@@ -28,9 +28,9 @@ pub returns-in-Some-clause-given : goal.returns-in-Some-clause-given
 returns-in-Some-clause-given g c =
     let within : c.loop-reply.reply-index < length c.args.replies.now = omega arith in
     let one =
-        subst (λ (o : Option Ending). HaveBeenGiven (g.K.Sink.taken c.loop-reply.sink) (g.K.Sink.taken c.write_to.new.sink) c.loop-reply.tally c.write_to.new.tally (c.reply-item.result ∷ [])
-        (reply_to c.args.client c.reply-item.result ∷ []) o) c.in-Some.is c.write_to.ensures.given in
-    reply_cut _ _ _ _ _ _ c.args.client c.args.replies.now c.loop-reply.reply-index c.reply-item.result within c.reply-item.is c.in-Some.ending c.loop-reply.invariant.given one
+    subst (λ (o : Option Ending). HaveBeenGiven (g.K.Sink.taken c.loop-reply.sink) (g.K.Sink.taken c.write_to.new.sink) c.loop-reply.tally c.write_to.new.tally (c.reply-item.result ∷ [])
+    (reply_to c.args.client c.reply-item.result ∷ []) o) c.in-Some.is c.write_to.ensures.given in
+    reply_cut _ _ _ c.args.tally.now c.loop-reply.tally c.write_to.new.tally c.args.client c.args.replies.now c.loop-reply.reply-index c.reply-item.result within c.reply-item.is c.in-Some.ending c.loop-reply.invariant.given one
 
 pub returns-clause-given : goal.returns-clause-given
 returns-clause-given g c =
