@@ -1,8 +1,9 @@
 -- How the replies to several clients are written.
-use Rattle.std.proofs.Common.{◌≡◌, inl, inr, ◌∙◌, ℕ, ◌+◌, ◌||◌, Bool, true, false, List, [], ◌∷◌, ◌++◌, Option, Some, None, ap, append-nil, append_assoc, arith, if◌then◌else◌, length, refl, subst, sym}
+use Rattle.std.proofs.Common.{◌≡◌, inl, inr, ◌∙◌, ℕ, ◌+◌, ◌<◌, ◌||◌, Bool, true, false, List, [], ◌∷◌, ◌++◌, Option, Some, None, ap, append-nil, append_assoc, arith, drop, get_or, if◌then◌else◌, length, refl, subst, sym, take, take-append-drop}
 use Rattle.std.specs.List.{concat, list_any}
 use Rattle.std.specs.Io.KnownBytes.{Appends}
 use Rattle.client_scripts.specs.declared.script.Answered.{Answered}
+use Rattle.std.proofs.lemmas.List.{length-take-le, take_more}
 use Rattle.std.proofs.lemmas.List.Folds.{concat-append}
 use Rattle.io_edges.specs.Devices.{AppendsPrefix}
 use Rattle.session_text.specs.declared.reply.Reply.{Reply}
@@ -21,7 +22,7 @@ Sunk = Option (List ℕ)
 
 -- ---- one after another
 
-appends_nothing : (taken : Sunk) → Appends taken taken []
+pub appends_nothing : (taken : Sunk) → Appends taken taken []
 appends_nothing None = tt
 appends_nothing (Some bs) = sym (append-nil bs)
 
@@ -96,6 +97,58 @@ pub all_front : (xs ys : List Answered) → all_replies (xs ++ ys) ≡ all_repli
 all_front [] ys = refl
 all_front (x ∷ xs) ys = ap (λ (t : List Reply). x.replies.items ++ t) (all_front xs ys) ∙ sym (append_assoc x.replies.items (all_replies xs) (all_replies ys))
 
+-- ---- so many so far
+
+pub one_text : (text : List ℕ) → concat (text ∷ []) ≡ text
+one_text text = append-nil text
+
+module _ (s t u : Sunk) (x y z : Tally) (client : ℕ) (replies : List Reply) (n : ℕ) (reply : Reply) (here : n < length replies) (is : reply ≡ get_or replies n reply) where
+  abbrev Given : Sunk → Tally → List Reply → Option Ending → Type 0
+  Given new tally rs stopped = HaveBeenGiven s new x tally rs (texts_to client rs) stopped
+
+  -- One reply more was given to a client, or it was cut off there.
+  pub reply_more : (stopped : Option Ending) → Given t y (take n replies) None → HaveBeenGiven t u y z (reply ∷ []) (reply_to client reply ∷ []) stopped → Given u z (take (n + 1) replies) stopped
+  reply_more stopped one two =
+      let next : take (n + 1) replies ≡ take n replies ++ reply ∷ [] = take_more replies n reply here ∙ ap (λ (r : Reply). take n replies ++ r ∷ []) (sym is) in
+      subst (λ (rs : List Reply). Given u z rs stopped) (sym next)
+      (subst (λ (ts : List (List ℕ)). HaveBeenGiven s u x z (take n replies ++ reply ∷ []) ts stopped) (sym (texts_then client (take n replies) (reply ∷ [])))
+      (given_then s t u x y z (take n replies) (reply ∷ []) (texts_to client (take n replies)) (reply_to client reply ∷ []) stopped one two))
+
+  -- It was cut off there.
+  pub reply_cut : (e : Ending) → Given t y (take n replies) None → HaveBeenGiven t u y z (reply ∷ []) (reply_to client reply ∷ []) (Some e) → Given u z replies (Some e)
+  reply_cut e one two =
+      let front = take (n + 1) replies in
+      let back = drop (n + 1) replies in
+      subst (λ (rs : List Reply). Given u z rs (Some e)) (take-append-drop (n + 1) replies)
+      (subst (λ (ts : List (List ℕ)). HaveBeenGiven s u x z (front ++ back) ts (Some e)) (sym (texts_then client front back))
+      (given_cut s u x z front back (texts_to client front) (texts_to client back) e (reply_more (Some e) one two)))
+
+module _ (s t u : Sunk) (x y z : Tally) (answers : List Answered) (n : ℕ) (one : Answered) (here : n < length answers) (is : one ≡ get_or answers n one) where
+  abbrev Served : Sunk → Tally → List Answered → Option Ending → Type 0
+  Served new tally given stopped = HaveBeenGiven s new x tally (all_replies given) (served_texts 0 given) stopped
+
+  -- The replies to one client more were given, or it was cut off there.
+  pub client_more : (stopped : Option Ending) → Served t y (take n answers) None → HaveBeenGiven t u y z one.replies.items (texts_to n one.replies.items) stopped → Served u z (take (n + 1) answers) stopped
+  client_more stopped before now =
+      let front = take n answers in
+      let next : take (n + 1) answers ≡ front ++ one ∷ [] = take_more answers n one here ∙ ap (λ (a : Answered). front ++ a ∷ []) (sym is) in
+      let many : 0 + length front ≡ n = omega (arith, length-take-le n answers (omega (arith, here))) in
+      subst (λ (given : List Answered). Served u z given stopped) (sym next)
+      (subst (λ (rs : List Reply). HaveBeenGiven s u x z rs (served_texts 0 (front ++ one ∷ [])) stopped) (sym (all_then front one))
+      (subst (λ (ts : List (List ℕ)). HaveBeenGiven s u x z (all_replies front ++ one.replies.items) ts stopped) (sym (served_then 0 front one n many))
+      (given_then s t u x y z (all_replies front) one.replies.items (served_texts 0 front) (texts_to n one.replies.items) stopped before now)))
+
+  -- It was cut off there.
+  pub client_cut : (e : Ending) → Served t y (take n answers) None → HaveBeenGiven t u y z one.replies.items (texts_to n one.replies.items) (Some e) → Served u z answers (Some e)
+  client_cut e before now =
+      let front = take (n + 1) answers in
+      let back = drop (n + 1) answers in
+      let more = served_front 0 front back in
+      subst (λ (given : List Answered). Served u z given (Some e)) (take-append-drop (n + 1) answers)
+      (subst (λ (rs : List Reply). HaveBeenGiven s u x z rs (served_texts 0 (front ++ back)) (Some e)) (sym (all_front front back))
+      (subst (λ (ts : List (List ℕ)). HaveBeenGiven s u x z (all_replies front ++ all_replies back) ts (Some e)) (sym more.1)
+      (given_cut s u x z (all_replies front) (all_replies back) (served_texts 0 front) more.0 e (client_more (Some e) before now))))
+
 -- ---- how a run ends
 
 or_assoc : (a b c : Bool) → ((a || b) || c) ≡ (a || (b || c))
@@ -158,3 +211,31 @@ cut_ends old new answers t after NotOpened whole given = absurd given
 cut_ends old new answers t after (NotStore file at) whole given = absurd given
 cut_ends old new answers t after Refused whole given = absurd given
 cut_ends old new answers t after Spent whole given = absurd given
+
+-- The source has no part in it.
+pub cut_by_sink : (old new : Sunk) (t after : Tally) (rs : List Reply) (texts : List (List ℕ)) (e : Ending) → HaveBeenGiven old new t after rs texts (Some e) → (e ≡ ReadFault → ⊥) × (e ≡ Spent → ⊥)
+cut_by_sink old new t after rs texts Starved given = (λ is. cc, λ is. cc)
+cut_by_sink old new t after rs texts WriteFault given = (λ is. cc, λ is. cc)
+cut_by_sink old new t after rs texts answered given = absurd given
+cut_by_sink old new t after rs texts BadWords given = absurd given
+cut_by_sink old new t after rs texts ReadFault given = absurd given
+cut_by_sink old new t after rs texts NotOpened given = absurd given
+cut_by_sink old new t after rs texts (NotStore file at) given = absurd given
+cut_by_sink old new t after rs texts Refused given = absurd given
+cut_by_sink old new t after rs texts Spent given = absurd given
+
+pub told_by_tally : (t : Tally) → (ending_of t ≡ ReadFault → ⊥) × (ending_of t ≡ Spent → ⊥)
+told_by_tally t = go t.refused t.starved
+  where
+    go : (a b : Bool) → ((if a then Refused else if b then Starved else answered) ≡ ReadFault → ⊥) × ((if a then Refused else if b then Starved else answered) ≡ Spent → ⊥)
+    go true b = (λ is. cc, λ is. cc)
+    go false true = (λ is. cc, λ is. cc)
+    go false false = (λ is. cc, λ is. cc)
+
+pub not_by_sink : (t : Tally) → ending_of t ≡ WriteFault → ⊥
+not_by_sink t = go t.refused t.starved
+  where
+    go : (a b : Bool) → (if a then Refused else if b then Starved else answered) ≡ WriteFault → ⊥
+    go true b = λ is. cc
+    go false true = λ is. cc
+    go false false = λ is. cc
