@@ -62,7 +62,9 @@ module _ {D : Type 0} (g : Ghosts D) where
 
   one_fits : (left : Image → Type 0) (act : Act) (old new : Store D) (reply : Reply) → IsTrue (g.tells (disk_of old)) → left (g.held (disk_of old))
       → IsDoneOver g act old reply new → FitsBytes left act reply
-  one_fits left (Ask item) old new reply tells here is = tt
+  one_fits left (Ask (Ok request)) (Open core) new reply tells here (later, is, one) = one.is.whole tells
+  one_fits left (Ask (Ok request)) (Closed disk) new reply tells here bad = absurd bad
+  one_fits left (Ask (Err why)) old new reply tells here is = tt
   one_fits left (Reopen moment) old new reply tells here (result, is, again) =
       subst (λ (r : Reply). FitsBytes left (Reopen moment) r) (sym is) (opening_fits left moment (disk_of old) new result tells here again)
   one_fits left Unread old new reply tells here is = tt
