@@ -55,7 +55,7 @@ module _ {D : Type 0} (g : Ghosts D) where
 
   opening_fits : (left : Image → Type 0) (moment : ℕ) (disk : D) (store : Store D) (result : Result ℕ OpenError) → IsTrue (g.tells disk) → left (g.held disk)
       → Reopens g disk moment store result → FitsBytes left (Reopen moment) (reopened_reply result)
-  opening_fits left moment disk store (Ok entries) tells here again = tt
+  opening_fits left moment disk store (Ok entries) tells here again = (g.held disk, here, again.unbroken tells)
   opening_fits left moment disk store (Err Fault) tells here again = tt
   opening_fits left moment disk store (Err (NotStore file at)) tells here again = (g.held disk, here, again.breaks tells file at refl)
   opening_fits left moment disk store (Err Memory) tells here again = tt

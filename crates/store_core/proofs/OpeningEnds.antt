@@ -225,7 +225,7 @@ module _ {D : Type 0} (g : Ghosts D) where
 
     -- the blocks that were checked are so still
     listed_whole : ListsBlocks g core
-    listed_whole told =
+    listed_whole = λ told.
         let known : IsTrue (g.tells mid) = told_mid (subst IsTrue telling_core told) in
         whole_listed (g.held mid) (g.held core.disk) list.blocks core.state.infos.items
         (λ x c. subst (λ (refs : List BlockRef). Contains refs (listed_as x)) state.infos (in_map listed_as core.state.infos.items x c))
