@@ -91,9 +91,9 @@ pub whole_with : (bytes : ℕ → List ℕ) (infos : List InfoParts) (info : Inf
 whole_with bytes infos info are one = from_each bytes (infos ++ info ∷ []) (λ x c. elim (Contains-append_cases infos (info ∷ []) x c) [
   | inl old ↦ each_whole bytes infos are x old
   | inr new ↦ elim (in_cons x info [] new) [
-      | inl same ↦ subst (λ (y : InfoParts). IsWhole bytes y) same one
-      | inr none ↦ absurd (not_in_nil x none)
-    ]
+    | inl same ↦ subst (λ (y : InfoParts). IsWhole bytes y) same one
+    | inr none ↦ absurd (not_in_nil x none)
+  ]
 ])
 
 pub whole_outside : (bytes : ℕ → List ℕ) (files : List ℕ) (infos : List InfoParts) → AreBlocks bytes infos → AreBlocks bytes (infos_outside files infos)
