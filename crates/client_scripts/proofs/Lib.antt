@@ -5,3 +5,4 @@ pub mod RunLemmas
 pub mod ServeLemmas
 pub mod Crossing
 pub mod CoreLemmas
+pub mod NumberLemmas

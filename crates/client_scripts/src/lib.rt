@@ -9,5 +9,5 @@ mod laws;
 mod script;
 
 pub use clients::{Scripts, run_scripts};
-pub use laws::a_script_makes_just_its_calls;
+pub use laws::{a_script_makes_just_its_calls, pushes_of_clients_are_numbered};
 pub use script::{Answered, Item, Script, answer_script};

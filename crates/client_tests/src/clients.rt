@@ -6,10 +6,10 @@ ghost use Rattle.store_core.specs.Port.{port_of};
 use crate::spans::{ask, push};
 use client_scripts::{Answered, Script, run_scripts};
 use disk_model::{Device, MemDisk};
-use io_edges::OpenGate;
+use io_edges::{Gate, OpenGate};
 use session_text::Reply;
 use std::alloc::Global;
-use std::sync::Wait;
+use std::sync::{Barrier, Wait};
 use std::test::Fail;
 use std::thread::Threads;
 use store_core::{Core, a_shown_core_is_a_port};
@@ -88,12 +88,13 @@ fn stand_together(alloc: Global, answers: &[Answered]) -> Option<bool> {
     Some(all && given.as_slice().iter().all(|is| *is))
 }
 
-fn answered<R: Threads + Wait + Sync>(rt: &R, alloc: Global) -> Option<bool> {
+// Answers two clients that pass the gate after each push, and tells whether all stands in one history.
+fn answered<R: Threads + Wait + Sync, G: Gate>(rt: &R, alloc: Global, gate: &G) -> Option<bool> {
     let core = opened(alloc, MemDisk::empty(alloc))?;
     let mut scripts = Vec::new(alloc);
     scripts.push(script(alloc, 0)?).ok()?;
     scripts.push(script(alloc, 1)?).ok()?;
-    let (core, answers) = run_scripts(rt, alloc, core, scripts, &OpenGate);
+    let (core, answers) = run_scripts(rt, alloc, core, scripts, gate);
     let _disk = core.close();
     let answers = answers.ok()?;
     stand_together(alloc, answers.as_slice())
@@ -101,6 +102,31 @@ fn answered<R: Threads + Wait + Sync>(rt: &R, alloc: Global) -> Option<bool> {
 
 #[test]
 fn two_clients_are_answered_of_one_history(rt: HostRuntime) -> Result<(), Fail> {
-    assert_eq!(rt; answered(&rt, rt.alloc()), Some(true));
+    assert_eq!(rt; answered(&rt, rt.alloc(), &OpenGate), Some(true));
+    Ok(())
+}
+
+// A gate at which two clients wait for each other.
+#[derive(Drop)]
+struct Meeting<'a, R: Wait + Sync> {
+    rt: &'a R,
+    both: Barrier,
+}
+
+impl<R: Wait + Sync> Gate for Meeting<'_, R> {
+    fn pass(&self, _point: u32) {
+        let _last = self.both.wait(self.rt);
+    }
+}
+
+// After each push a client waits until the other one has pushed as often: if the scripts were answered one after the
+// other, this wouldn't end.
+#[test]
+fn two_clients_are_at_work_at_once(rt: HostRuntime) -> Result<(), Fail> {
+    let meeting = Meeting {
+        rt: &rt,
+        both: Barrier::new(2),
+    };
+    assert_eq!(rt; answered(&rt, rt.alloc(), &meeting), Some(true));
     Ok(())
 }

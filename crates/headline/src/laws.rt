@@ -1,7 +1,7 @@
 //! The headline, and theorems that go with it: what a run's replies and its disk tell, by histories alone.
 //!
 //! Each contract is the statement, and its proof stands in `proofs/laws/`. No program runs these functions, and no
-//! crate is above this one: they are there to be read. Their bodies are empty, but for one that calls a theorem of
+//! crate is above this one: they are there to be read. Their bodies are empty, but for two that call a theorem of
 //! `session_meaning` to have its contract. The parameters name disks and cores, before and after.
 
 ghost use Rattle.std.specs.Prelude.{Bool, IsTrue, true, ◌≡◌, ◌⊎◌, ◌<◌, ◌≤◌, ◌+◌, ◌++◌, List, [], ◌∷◌, Some, Ok, length, ℕ};
@@ -17,7 +17,7 @@ ghost use Rattle.session_text.specs.declared.request.Request.{Request};
 ghost use Rattle.session_text.specs.declared.request.Request.TheVariants.{Push};
 ghost use Rattle.session_text.specs.Items.{Item};
 ghost use Rattle.store_core.specs.Port.{port_of};
-ghost use Rattle.store_images.specs.Stored.{ImageStandsFor};
+ghost use Rattle.store_images.specs.Stored.{ImageStandsFor, MayStandFor};
 ghost use Rattle.store_model.specs.History.{History, count_of, grown, up_to, with_entry};
 ghost use Rattle.store_reopen.specs.Through.{Pending, StoodAmid};
 ghost use Rattle.client_run.specs.Answers.{HasReplied};
@@ -29,6 +29,8 @@ ghost use Rattle.session_meaning.specs.Kept.{Kept, begun_with, kept_after_all, k
 ghost use Rattle.session_meaning.specs.Progress.{AreAnsweredOver};
 ghost use Rattle.session_meaning.specs.Pushes.{accepted_entries, accepted_entry, known_pushes};
 ghost use Rattle.session_meaning.specs.Runs.{Edges, IsRunOf, Outcome, TellsAll, text_written};
+ghost use Rattle.session_meaning.specs.ServedReplies.{AllTellFronts};
+ghost use Rattle.session_meaning.specs.ServedRuns.{RecoversServed, Served, ServesAs, last_place};
 ghost use Rattle.session_meaning.specs.Session.{Session};
 ghost use Rattle.session_meaning.specs.Stops.{Recovers};
 ghost use Rattle.headline.specs.Headline.{KeepsTheHistory, TellTheHistory, TellsFront};
@@ -36,7 +38,7 @@ ghost use Rattle.headline.specs.Requests.{HasHistory, KeepsFrom};
 ghost use Rattle.headline.specs.Stopped.{AreToldReadOnly, StopsWriting};
 
 use disk_model::Device;
-use session_meaning::pushes_have_their_causes;
+use session_meaning::{pushes_have_their_causes, what_was_seen_counts};
 use store_core::Core;
 
 /// The headline. Every answer of a run is TraceQL's meaning over the first occurrences of the spans in one front of
@@ -61,6 +63,22 @@ pub fn the_headline<D: Device>(disk: &D, later: &D)
         → (image : Image) → D.left_since later.now (D.moment disk.now) image
         → StoodAmid (count_of first) last.history (were_unsure last) image }
 {}
+
+/// The headline of several clients that were answered at once. Each answer is TraceQL's meaning over one front of the
+/// last history. The front reaches over all that was stored at first, over the number of each push that its client had
+/// seen acknowledged, and over all that its client's earlier answers told of. Whatever a crash leaves of the disk
+/// afterwards stands for that history to its end, and it may be for one push more that was answered `disk-fault`.
+pub fn the_headline_of_clients<D: Device>(disk: &D, later: &D)
+    ensures answers { (words : List (List ℕ)) (s : Served) (old new : Edges)
+        → ServesAs true words s old new
+        → AllTellFronts (history_of s.last) (count_of (history_of s.first)) s.scripts s.answers }
+    ensures stored { (s : Served) → RecoversServed D.Device.own disk.now later.now s
+        → ImageStandsFor (D.held disk.now) (history_of s.first)
+        × ((image : Image) → D.may_leave later.now image
+        → MayStandFor (history_of s.last) (last_place s).unsure image) }
+{
+    what_was_seen_counts();
+}
 
 /// Whatever history the disk's bytes stood for, the run goes on from it: it matters to no reply and to no later image
 /// which of them is meant.

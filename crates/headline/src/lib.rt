@@ -8,5 +8,5 @@ mod laws;
 pub use laws::{
     a_request_keeps_what_is_stored, counts_grow, each_answer_is_of_a_front,
     each_stored_history_goes_on, read_only_stays, replies_are_written, the_headline,
-    the_next_run_goes_on,
+    the_headline_of_clients, the_next_run_goes_on,
 };

@@ -8,5 +8,5 @@ mod runs;
 mod sessions;
 
 pub use lines::{LOOK_A1, PUSH_X, PUSH_Y, PUSHED_0, TRACE_X};
-pub use runs::{FINE, Failing, Played, all_words, calls, play, source_of};
+pub use runs::{FINE, Failing, Played, all_words, calls, play, play_through, source_of};
 pub use sessions::{calls_to_open, disk_of, session_on, writes};

@@ -1,7 +1,7 @@
 //! Runs of the program's words over devices in memory.
 
 use disk_model::MemDisk;
-use io_edges::{FixedClock, MemSink, MemSource, OpenGate};
+use io_edges::{FixedClock, Gate, MemSink, MemSource, OpenGate};
 use span_types::{Bytes, Calls, Memory, Moments};
 use std::alloc::Global;
 use std::sync::Wait;
@@ -74,6 +74,20 @@ pub fn play<R: Threads + Wait + Sync>(
     failing: Failing<'_>,
     moments: &[u64],
 ) -> Result<Played, Memory> {
+    play_through(rt, alloc, disk, words, input, failing, moments, &OpenGate)
+}
+
+/// The same through a gate, whose points the run passes.
+pub fn play_through<R: Threads + Wait + Sync, G: Gate>(
+    rt: &R,
+    alloc: Global,
+    disk: MemDisk,
+    words: &[&str],
+    input: &str,
+    failing: Failing<'_>,
+    moments: &[u64],
+    gate: &G,
+) -> Result<Played, Memory> {
     let words = all_words(alloc, words)?;
     let bytes = Bytes::of(Vec::from_slice(alloc, input.as_bytes())?);
     let mut source = MemSource::new(bytes, calls(alloc, failing.source)?);
@@ -88,7 +102,7 @@ pub fn play<R: Threads + Wait + Sync>(
         disk,
         &mut FixedClock::new(moments),
         &mut RegexMaker::new(alloc),
-        &OpenGate,
+        gate,
     );
     let starved = sink.starved().saturating_add(disk.starved());
     Ok(Played {

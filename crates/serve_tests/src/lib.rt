@@ -3,6 +3,10 @@
 #![tactic(auto)]
 
 #[cfg(test)]
+mod gate_run;
+#[cfg(test)]
+mod orders;
+#[cfg(test)]
 mod texts;
 #[cfg(test)]
 mod together;

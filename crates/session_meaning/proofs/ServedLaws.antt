@@ -2,6 +2,7 @@
 use Rattle.std.proofs.Common.{◌≡◌, ◌⊎◌, inl, inr, ◌∙◌, ℕ, zero, suc, ◌+◌, ◌<◌, ◌≤◌, ◌==◌, Bool, true, false, max, nat_lt, List, [], ◌∷◌, ◌++◌, map, take, length, Option, None, Result, Ok, Err, ap, arith, refl, sym, subst, if◌then◌else◌}
 use Rattle.std.specs.List.{Contains}
 use Rattle.std.proofs.lemmas.List.{take_all}
+use Rattle.std.proofs.Math.Seq.{take-nil}
 use Rattle.client_run.specs.CoreRuns.{IsCounted, is_fault}
 use Rattle.client_scripts.specs.Numbers.{AreInARow, given_by, given_numbers}
 use Rattle.client_scripts.specs.Scripts as by_script
@@ -36,6 +37,7 @@ use Rattle.store_model.specs.Laws.{Agrees}
 use Rattle.store_model.specs.State.{is_among}
 use Rattle.store_model.specs.Step.{Machine, Step}
 use Rattle.store_model.specs.Told.{TellsLength, added_entry, asked_entry, history_after}
+use Rattle.store_model.proofs.Numbers.{equal_itself, same_number}
 use Rattle.store_model.proofs.TellsHistory.{step_tells}
 use Rattle.client_scripts.proofs.ToldLemmas.{grown_count}
 use Rattle.store_state.specs.Made.{Call, call}
@@ -55,6 +57,7 @@ use Rattle.session_meaning.specs.Session.{IsAnswered, IsFound, IsTraceIn, Sessio
 use Rattle.session_meaning.proofs.AnswerLaws.{session_means}
 use Rattle.session_meaning.proofs.EndLaws.{by_ending, taken_within}
 use Rattle.session_meaning.proofs.PushCauses.{accepted_with_room, refused_for}
+use Rattle.session_meaning.proofs.Steps.{counted_later}
 
 -- ---- numbers
 
@@ -126,14 +129,13 @@ has_back (z ∷ zs) ys x h = inr (has_back zs ys x h)
 -- those of one client are among all
 own_has : (names : List ℕ) (es : List Entry) (c : Call) → Has (map call_of (own names es)) c → Has (map call_of es) c
 own_has names [] c h = h
-own_has names (e ∷ es) c h = (elim (is_among e.seat names) as (λ t. Has (map call_of (if t then e ∷ own names es else own names es)) c → Has (map call_of (e ∷ es)) c) [
-  | true ↦ λ h. first h
-  | false ↦ λ h. inr (own_has names es c h)
-]) h
+own_has names (e ∷ es) c h = by_test (is_among e.seat names) (λ k. own_has names es c k) h
   where
-    first : Has (map call_of (e ∷ own names es)) c → Has (map call_of (e ∷ es)) c
-    first (inl is) = inl is
-    first (inr more) = inr (own_has names es c more)
+    by_test : (t : Bool) → (Has (map call_of (own names es)) c → Has (map call_of es) c) → Has (map call_of (if t then e ∷ own names es else own names es)) c
+        → Has (map call_of (e ∷ es)) c
+    by_test true rest (inl is) = inl is
+    by_test true rest (inr more) = inr (rest more)
+    by_test false rest h = inr (rest h)
 
 -- A push of a client was one of the calls.
 record PushedSo (reading : Reading) (moment : ℕ) (reply : Reply) (calls : List Call) : Type 0 where
@@ -204,10 +206,6 @@ made_at first last (x ∷ calls) c (now, between, counted, step, rest) (inr more
       step = found.step;
     }
 
-counted_up : (failed : Bool) (before now : ℕ) → IsCounted failed before now → before ≤ now
-counted_up true before now rose = rose.later
-counted_up false before now same = omega (arith, same)
-
 -- A push of a client was answered at a place on the way.
 record PushedAt (reading : Reading) (moment : ℕ) (reply : Reply) (first : At) (entries : List Entry) : Type 0 where
   earlier : List Call
@@ -229,7 +227,7 @@ pushed_at told first last scripts answers entries reading moment reply ran this 
       after = at.after;
       parts = at.parts;
       lead = at.lead;
-      answered = (so.answer, so.is, counted_up (is_fault (push_reply so.answer)) at.before.faults at.after.faults at.counted, at.step, at.counted);
+      answered = (so.answer, so.is, (counted_later (is_fault (push_reply so.answer)) at.before.faults at.after.faults at.counted, at.step, at.counted));
     }
 
 pub refused_there : (told : Bool) (first last : At) (scripts : List (List Item)) (answers : List Answered) (entries : List Entry) (reading : Reading) (moment : ℕ) (why : Refusal)
@@ -238,7 +236,8 @@ pub refused_there : (told : Bool) (first last : At) (scripts : List (List Item))
     × HasPushCause why (length reading.batch.spans) before after × (history_of after ≡ history_of before)
 refused_there told first last scripts answers entries reading moment why ran this =
     let at = pushed_at told first last scripts answers entries reading moment (Refused why) ran this in
-    (at.earlier, at.later, at.before, at.after, at.parts, at.lead, refused_for false reading moment at.before at.after why at.answered)
+    let cause = refused_for false reading moment at.before at.after why at.answered in
+    (at.earlier, at.later, at.before, at.after, at.parts, at.lead, cause.0, cause.1)
 
 pub accepted_there : (told : Bool) (first last : At) (scripts : List (List Item)) (answers : List Answered) (entries : List Entry) (reading : Reading) (moment number kept rejected skipped : ℕ)
     → Ran told first scripts answers entries last → WasReplied scripts answers (Ok (request.Push reading moment)) (Pushed number kept rejected skipped)
@@ -246,45 +245,32 @@ pub accepted_there : (told : Bool) (first last : At) (scripts : List (List Item)
     × HasRoomForPush (length reading.batch.spans) before.machine × (number ≡ count_of (history_of before))
 accepted_there told first last scripts answers entries reading moment number kept rejected skipped ran this =
     let at = pushed_at told first last scripts answers entries reading moment (Pushed number kept rejected skipped) ran this in
-    (at.earlier, at.later, at.before, at.parts, at.lead, accepted_with_room false reading moment at.before at.after number kept rejected skipped at.answered)
+    let room = accepted_with_room false reading moment at.before at.after number kept rejected skipped at.answered in
+    (at.earlier, at.later, at.before, at.parts, at.lead, room.0, room.1)
 
 -- ---- one script
 
 -- Whoever asks nothing makes no call.
+no_call : (n : ℕ) (items : List Item) (replies : List Reply) (calls : List Call) → items ≡ [] → by_script.AreItemsAnswered (take n items) replies calls → calls ≡ []
+no_call n items replies calls empty are = (subst (λ (xs : List Item). by_script.AreItemsAnswered xs replies calls) (ap (take n) empty ∙ take-nil n) are).1
+
 none_of : (client : ℕ) (others : List (List Item)) (answers : List Answered) (entries : List Entry) → AskNothing others → AreServed client others answers entries
     → (seat : ℕ) → client ≤ seat → seat < client + length others → map call_of (own (seat ∷ []) entries) ≡ []
 none_of client [] answers entries none served seat over below = absurd (omega (arith, over, below))
 none_of client (script ∷ others) [] entries none served seat over below = absurd served
-none_of client (script ∷ others) (answered ∷ answers) entries (is, none) (one, rest) seat over below = at (seat == client) refl
+none_of client (script ∷ others) (answered ∷ answers) entries (is, none) (one, rest) seat over below =
+    at (seat == client) refl (λ more. none_of (client + 1) others answers entries none rest seat more (omega (arith, below)))
   where
-    no_call : (n : ℕ) (items : List Item) (replies : List Reply) (calls : List Call) → items ≡ [] → by_script.AreItemsAnswered (take n items) replies calls → calls ≡ []
-    no_call n items replies calls empty are = (subst (λ (xs : List Item). by_script.AreItemsAnswered xs replies calls) (ap (take n) empty ∙ take_none n) are).1
-      where
-        take_none : (n : ℕ) → take n [] ≡ []
-        take_none zero = refl
-        take_none (suc n) = refl
-
-    at : (t : Bool) → (seat == client) ≡ t → map call_of (own (seat ∷ []) entries) ≡ []
-    at true same =
-        subst (λ (n : ℕ). map call_of (own (n ∷ []) entries) ≡ []) (sym (equal seat client same))
+    at : (t : Bool) → (seat == client) ≡ t → (client + 1 ≤ seat → map call_of (own (seat ∷ []) entries) ≡ []) → map call_of (own (seat ∷ []) entries) ≡ []
+    at true same later =
+        subst (λ (n : ℕ). map call_of (own (n ∷ []) entries) ≡ []) (sym (same_number seat client same))
         (no_call (length answered.replies.items) script answered.replies.items (map call_of (own (client ∷ []) entries)) is one.first)
+    at false not later = later (omega (arith, over, differs))
       where
-        equal : (a b : ℕ) → (a == b) ≡ true → a ≡ b
-        equal zero zero is = refl
-        equal zero (suc b) is = let bad : ⊥ = cc in absurd bad
-        equal (suc a) zero is = let bad : ⊥ = cc in absurd bad
-        equal (suc a) (suc b) is = ap suc (equal a b is)
-    at false not =
-        let other : (seat ≡ client → ⊥) = λ is. differs seat client not is in
-        none_of (client + 1) others answers entries none rest seat (omega (arith, over, other)) (omega (arith, below))
-      where
-        differs : (a b : ℕ) → (a == b) ≡ false → a ≡ b → ⊥
-        differs zero zero not is = let bad : ⊥ = cc in bad
-        differs zero (suc b) not is = let bad : ⊥ = cc in bad
-        differs (suc a) zero not is = let bad : ⊥ = cc in bad
-        differs (suc a) (suc b) not is = differs a b not (omega (arith, is))
+        differs : seat ≡ client → ⊥
+        differs is = let e : (seat == client) ≡ true = ap (λ (n : ℕ). n == client) is ∙ equal_itself client in let bad : ⊥ = cc in bad
 
--- Where each other seat made no call all calls are those of seat 0.
+-- Each call is of a seat below this number.
 abbrev AllBelow : ℕ → List Entry → Type 0
 AllBelow n [] = Unit {0}
 AllBelow n (e ∷ es) = (e.seat < n) × AllBelow n es
@@ -294,31 +280,23 @@ all_below n [] whose = tt
 all_below n (e ∷ es) whose = (whose e (0, omega arith, refl), all_below n es (λ x c. whose x (suc c.0, omega (arith, c.1), c.2)))
 
 own_itself : (e : Entry) (es : List Entry) → own (e.seat ∷ []) (e ∷ es) ≡ e ∷ own (e.seat ∷ []) es
-own_itself e es = rw itself refl
-  where
-    equals : (n : ℕ) → (n == n) ≡ true
-    equals zero = refl
-    equals (suc n) = equals n
-
-    itself : is_among e.seat (e.seat ∷ []) ≡ true
-    itself = rw (equals e.seat) refl
+own_itself e es = rw (equal_itself e.seat) refl
 
 no_more : (names : List ℕ) (e : Entry) (es : List Entry) → map call_of (own names (e ∷ es)) ≡ [] → map call_of (own names es) ≡ []
-no_more names e es none = (elim (is_among e.seat names) as (λ t. map call_of (if t then e ∷ own names es else own names es) ≡ [] → map call_of (own names es) ≡ []) [
-  | true ↦ λ h. let bad : ⊥ = cc in absurd bad
-  | false ↦ λ h. h
-]) none
+no_more names e es none = by_test (is_among e.seat names) none
+  where
+    by_test : (t : Bool) → map call_of (if t then e ∷ own names es else own names es) ≡ [] → map call_of (own names es) ≡ []
+    by_test true h = let bad : ⊥ = cc in absurd bad
+    by_test false h = h
 
+-- Where each other seat made no call all calls are those of seat 0.
 all_own : (n : ℕ) (es : List Entry) → AllBelow n es → ((seat : ℕ) → 1 ≤ seat → seat < n → map call_of (own (seat ∷ []) es) ≡ []) → own (0 ∷ []) es ≡ es
 all_own n [] below none = refl
-all_own n (e ∷ es) (here, below) none = at e.seat refl
+all_own n (e ∷ es) (here, below) none = at e.seat refl (all_own n es below (λ seat over under. no_more (seat ∷ []) e es (none seat over under)))
   where
-    rest : own (0 ∷ []) es ≡ es
-    rest = all_own n es below (λ seat over under. no_more (seat ∷ []) e es (none seat over under))
-
-    at : (seat : ℕ) → e.seat ≡ seat → own (0 ∷ []) (e ∷ es) ≡ e ∷ es
-    at zero is = subst (λ (k : ℕ). own (k ∷ []) (e ∷ es) ≡ e ∷ own (k ∷ []) es) is (own_itself e es) ∙ ap (λ (xs : List Entry). e ∷ xs) rest
-    at (suc seat) is =
+    at : (seat : ℕ) → e.seat ≡ seat → own (0 ∷ []) es ≡ es → own (0 ∷ []) (e ∷ es) ≡ e ∷ es
+    at zero is rest = subst (λ (k : ℕ). own (k ∷ []) (e ∷ es) ≡ e ∷ own (k ∷ []) es) is (own_itself e es) ∙ ap (λ (xs : List Entry). e ∷ xs) rest
+    at (suc seat) is rest =
         let gone : map call_of (e ∷ own (e.seat ∷ []) es) ≡ [] = ap (map call_of) (sym (own_itself e es)) ∙ none e.seat (omega (arith, is)) here in
         let bad : ⊥ = cc in absurd bad
 

@@ -1,7 +1,7 @@
 -- What a run does that serves several clients, and what is stored then.
 use Rattle.std.specs.Prelude.{◌≡◌, ◌⊎◌, ℕ, ◌*◌, ◌≤◌, ◌<◌, Bool, true, false, List, [], ◌∷◌, ◌++◌, Option, None, IfSome, length, map}
 use Rattle.std.specs.Io.KnownBytes.{Appends}
-use Rattle.std.specs.List.{list_any}
+use Rattle.std.specs.List.{concat, list_any}
 use Rattle.client_run.specs.CoreRuns.{unsure_after_calls}
 use Rattle.client_scripts.specs.declared.script.Answered.{Answered}
 use Rattle.command_words.specs.Commands.{Serve, Spells}
@@ -17,7 +17,7 @@ use Rattle.session_meaning.specs.Asked.{after_lines, after_moment}
 use Rattle.session_meaning.specs.At.{At}
 use Rattle.session_meaning.specs.Place.{Place}
 use Rattle.session_meaning.specs.Runs.{Edges, HasCause, HasOpened, NeedsNoSource, Outcome}
-use Rattle.session_meaning.specs.Serving.{AreDealt, AreScripts, Dealt, Ran, after_moments, served_text}
+use Rattle.session_meaning.specs.Serving.{AreDealt, AreScripts, Dealt, Ran, after_moments, served_text, served_texts}
 use Rattle.session_meaning.specs.Session.{IsAllEnded, end_of}
 use Rattle.session_meaning.specs.Stops.{AreTidy, Begins, Leaves, ListsLast, Returns}
 
@@ -64,19 +64,32 @@ abbrev pub all_replies : List Answered → List Reply
 all_replies [] = []
 all_replies (one ∷ more) = one.replies.items ++ all_replies more
 
+-- whether memory was wanted before the end of some script
+abbrev pub any_starved : List Answered → Bool
+any_starved answers = list_any (λ (one : Answered). one.starved) answers
+
 -- All scripts were answered to their ends, all replies were written, and by these the run ends so.
 pub record IsServed (ended : Ending) (answers : List Answered) (old new : Option (List ℕ)) : Type 0 where
-  pub whole : list_any (λ (one : Answered). one.starved) answers ≡ false
+  pub whole : any_starved answers ≡ false
   pub written : Appends old new (served_text 0 answers)
   pub ends : end_of (all_replies answers) ≡ ended
 
--- What stands written at each ending: all replies; a first part of their text, where the sink failed or memory was wanted; nothing, where
--- the source's end came before any request was answered.
+-- Memory was wanted: nothing was written, where it was before the end of some script; or else the replies before the first for whose text
+-- there was none.
+pub record WritesFirst (answers : List Answered) (old new : Option (List ℕ)) : Type 0 where
+  pub first : List (List ℕ)
+  pub later : List (List ℕ)
+  pub texts_are : served_texts 0 answers ≡ first ++ later
+  pub written : Appends old new (concat first)
+  pub nothing : any_starved answers ≡ true → new ≡ old
+
+-- What stands written at each ending: all replies; the first of them, where memory was wanted; a first part of their text, where the sink
+-- failed; nothing, where the source's end came before any request was answered.
 abbrev pub EndsServing : Ending → List Answered → Option (List ℕ) → Option (List ℕ) → Type 0
 EndsServing answered answers old new = IsServed answered answers old new
 EndsServing Refused answers old new = IsServed Refused answers old new
-EndsServing Starved answers old new = IsServed Starved answers old new ⊎ AppendsPrefix old new (served_text 0 answers)
-EndsServing WriteFault answers old new = AppendsPrefix old new (served_text 0 answers)
+EndsServing Starved answers old new = IsServed Starved answers old new ⊎ WritesFirst answers old new
+EndsServing WriteFault answers old new = (any_starved answers ≡ false) × AppendsPrefix old new (served_text 0 answers)
 EndsServing ReadFault answers old new = new ≡ old
 EndsServing Spent answers old new = new ≡ old
 EndsServing _ answers old new = ⊥

@@ -1,6 +1,6 @@
 -- What several clients ask of one store at once, and how they are answered.
 use Rattle.std.specs.Prelude.{◌≡◌, ℕ, zero, suc, ◌+◌, ◌*◌, ◌<◌, ◌≤◌, ◌==◌, Bool, true, List, [], ◌∷◌, ◌++◌, Option, Ok, Err, decimal, filter, length, map}
-use Rattle.std.specs.List.{Contains, range_with_len}
+use Rattle.std.specs.List.{Contains, concat, range_with_len}
 use Rattle.client_scripts.specs.Served.{AllTold, AreServed}
 use Rattle.client_scripts.specs.declared.script.Answered.{Answered}
 use Rattle.io_edges.specs.Lines.{line_limit}
@@ -110,12 +110,15 @@ pub record Ran (told : Bool) (first : At) (scripts : List (List Item)) (answers 
 abbrev pub reply_to : ℕ → Reply → List ℕ
 reply_to client reply = decimal client ++ 32 ∷ reply_text reply
 
--- the texts of the replies to a client
-abbrev pub replies_to : ℕ → List Reply → List ℕ
-replies_to client [] = []
-replies_to client (reply ∷ replies) = reply_to client reply ++ replies_to client replies
+-- those to a client, in order
+abbrev pub texts_to : ℕ → List Reply → List (List ℕ)
+texts_to client replies = map (reply_to client) replies
 
--- The texts of all replies, client by client, from this one on.
+-- Those to all, client by client, from this one on.
+abbrev pub served_texts : ℕ → List Answered → List (List ℕ)
+served_texts client [] = []
+served_texts client (answered ∷ answers) = texts_to client answered.replies.items ++ served_texts (client + 1) answers
+
+-- what all these make
 abbrev pub served_text : ℕ → List Answered → List ℕ
-served_text client [] = []
-served_text client (answered ∷ answers) = replies_to client answered.replies.items ++ served_text (client + 1) answers
+served_text client answers = concat (served_texts client answers)

@@ -1,8 +1,10 @@
 -- What is dealt to clients, line by line.
-use Rattle.std.proofs.Common.{◌≡◌, ◌∙◌, ℕ, zero, suc, ◌+◌, ◌<◌, ◌≤◌, ◌==◌, Bool, true, false, List, [], ◌∷◌, ◌++◌, Option, Some, None, Err, ap, append_assoc, append-nil, arith, length, map, refl, subst, sym}
-use Rattle.std.specs.Prelude.{filter, get_or, replicate, slice_set}
+use Rattle.std.proofs.Common.{◌≡◌, ◌⊎◌, inl, inr, ◌∙◌, ℕ, zero, suc, ◌+◌, ◌<◌, ◌≤◌, ◌==◌, Bool, true, false, List, [], ◌∷◌, ◌++◌, Option, Some, None, Err, Vec, ap, ap₂, append_assoc, append-nil, arith, length, map, refl, subst, sym}
+use Rattle.std.specs.Prelude.{IfSome, filter, get_or, replicate, slice_set}
 use Rattle.std.specs.List.{range_with_len}
 use Rattle.std.specs.Io.KnownBytes.{Consumes}
+use Rattle.std.specs.declared.alloc.Global.{Global}
+use Rattle.std.proofs.lemmas.List.{get_or-map, map-append, map-set, replicate_more}
 use Rattle.std.proofs.lemmas.List.Elements.{filter-append}
 use Rattle.std.proofs.lemmas.List.FromFn.{get_or-map-range_with_len}
 use Rattle.io_edges.specs.Lines.{line_limit, lines}
@@ -10,11 +12,13 @@ use Rattle.io_edges.specs.Reader.{IsNextLine, IsToRead, Reader, TakesBytes}
 use Rattle.session_text.specs.declared.refusal.Refusal.TheVariants.{TooLong}
 use Rattle.session_text.specs.Items.{Item}
 use Rattle.session_meaning.specs.declared.ending.Ending.{Ending}
+use Rattle.session_meaning.specs.declared.ending.Ending.TheVariants.{ReadFault, Spent, Starved}
 use Rattle.session_meaning.specs.Asked.{IsNextMoment, after_lines, after_moment}
 use Rattle.session_meaning.specs.Serving.{AreDealt, Dealt, IsDealt, asks, of_nobody, script_of, scripts_of, too_long}
+use Rattle.store_model.proofs.Numbers.{equal_itself, same_number}
 use Rattle.session_meaning.proofs.SessionLaws.{after_empty, after_line}
-use Rattle.trace_shell.specs.Dealing.{DealtOn, HasDealt, HasStopped, IsDealingAt, IsGiven}
-use Rattle.trace_shell.specs.Ingesting.{HasReadTo, IsReadingAt}
+use Rattle.trace_shell.specs.Dealing.{DealtOn, HasDealt, HasStopped, IsDealingAt, IsEarly, IsGiven, scripts_in}
+use Rattle.trace_shell.specs.Ingesting.{HasReadTo, IsReadingAt, ending_in}
 use Rattle.trace_shell.specs.declared.ingesting.After.{After}
 use Rattle.trace_shell.specs.declared.ingesting.After.TheVariants as after
 use Rattle.trace_shell.proofs.IngestReads.{reads_on}
@@ -86,22 +90,12 @@ script_its one client is = rw is refl
 script_not : (one : Dealt) (client : ℕ) → (one.client == client) ≡ false → script_of (one ∷ []) client ≡ []
 script_not one client is = rw is refl
 
-equals_itself : (n : ℕ) → (n == n) ≡ true
-equals_itself zero = refl
-equals_itself (suc n) = equals_itself n
-
 by_test : (a b : ℕ) (P : Type 0) → ((a == b) ≡ false → P) → (a ≡ b → P) → P
-by_test a b P no yes = go (a == b) refl
+by_test a b P differ same = go (a == b) refl
   where
-    same : (a b : ℕ) → (a == b) ≡ true → a ≡ b
-    same zero zero is = refl
-    same zero (suc b) is = let bad : ⊥ = cc in absurd bad
-    same (suc a) zero is = let bad : ⊥ = cc in absurd bad
-    same (suc a) (suc b) is = ap suc (same a b is)
-
     go : (t : Bool) → (a == b) ≡ t → P
-    go true is = yes (same a b is)
-    go false is = no is
+    go true is = same (same_number a b is)
+    go false is = differ is
 
 -- The scripts after one more line: its client's has one more item.
 pub scripts_given : (clients : ℕ) (dealt : List Dealt) (one : Dealt) → one.client < clients
@@ -113,13 +107,13 @@ scripts_given clients dealt one within =
     (λ k not. other k (λ is. not (sym is ∙ sym here)))
     (ap (script_of (dealt ++ one ∷ [])) here
     ∙ script_split dealt one one.client
-    ∙ ap (λ (t : List Item). script_of dealt one.client ++ t) (script_its one one.client (equals_itself one.client))
+    ∙ ap (λ (t : List Item). script_of dealt one.client ++ t) (script_its one one.client (equal_itself one.client))
     ∙ ap (λ (s : List Item). s ++ one.item ∷ []) (sym was))
   where
     other : (k : ℕ) → (one.client ≡ k → ⊥) → script_of (dealt ++ one ∷ []) k ≡ script_of dealt k
     other k not =
         by_test one.client k (script_of (dealt ++ one ∷ []) k ≡ script_of dealt k)
-        (λ no. script_split dealt one k ∙ ap (λ (t : List Item). script_of dealt k ++ t) (script_not one k no) ∙ append-nil (script_of dealt k))
+        (λ differ. script_split dealt one k ∙ ap (λ (t : List Item). script_of dealt k ++ t) (script_not one k differ) ∙ append-nil (script_of dealt k))
         (λ is. absurd (not is))
 
 -- Before any line no client asks anything.
@@ -288,6 +282,18 @@ module _ (clients : ℕ) (refused : List (List ℕ) → Type 0) (left_old left t
           line_dealt clients told text left_old left to_tell_old reader_old reader scripts_old blamed at b bs to [] moment to_tell scripts turn one is_next took at_moment
           (too_long (subst (λ (n : ℕ). line_limit < n) as_long long) (ap (λ (n : ℕ). record { client = 0; item = Err (TooLong n) }) as_long) refl) later given
 
+-- ---- how a turn ends in which a line is dealt
+
+module _ (turn : After) (ends : (turn ≡ after.Line) ⊎ (turn ≡ after.Ending Starved)) where
+  pub turn_early : IfSome (ending_in turn) IsEarly
+  turn_early = elim ends [ inl is ↦ rw is tt | inr is ↦ rw is (inr (inr refl)) ]
+
+  pub turn_without_fault : (P : Type 0) → IfSome (ending_in turn) (λ ending. ending ≡ ReadFault → P)
+  turn_without_fault P = elim ends [ inl is ↦ rw is tt | inr is ↦ rw is (λ same. let bad : ⊥ = cc in absurd bad) ]
+
+  pub turn_not_spent : (P : Type 0) → IfSome (ending_in turn) (λ ending. ending ≡ Spent → P)
+  turn_not_spent P = elim ends [ inl is ↦ rw is tt | inr is ↦ rw is (λ same. let bad : ⊥ = cc in absurd bad) ]
+
 -- ---- turns after one another
 
 module _ (clients : ℕ) (told : Option (List ℕ)) (source : Option (List ℕ)) where
@@ -298,3 +304,60 @@ module _ (clients : ℕ) (told : Option (List ℕ)) (source : Option (List ℕ))
   pub dealt_begin : (reader : Reader) (scripts : List (List Item)) → ((text : List ℕ) → IsToRead reader (Some text) text) → reader.taken ≡ 0 → scripts ≡ replicate clients []
       → HaveDealt source told reader scripts after.Line []
   dealt_begin reader scripts to_read none_taken none text is = deals_begin clients told text source reader scripts is (to_read text) none_taken none
+
+  -- One more.
+  pub dealt_then : (left_old left told_between to_tell : Option (List ℕ)) (reader_old reader : Reader) (scripts_old scripts : List (List Item)) (turn last : After) (blamed more : List (List ℕ)) → turn ≡ last
+      → HaveDealt left_old told_between reader_old scripts_old after.Line blamed
+      → ((began : Option (List ℕ)) (text : List ℕ) (before : List (List ℕ)) → IsDealingAt clients began text left_old told_between reader_old scripts_old before
+      → DealtOn turn clients began text left to_tell reader scripts (before ++ more))
+      → HaveDealt left to_tell reader scripts last (blamed ++ more)
+  dealt_then left_old left told_between to_tell reader_old reader scripts_old scripts turn last blamed more ends_so was on text is =
+      subst (λ (t : After). DealtOn t clients told text left to_tell reader scripts (blamed ++ more)) ends_so (on told text blamed (was text is))
+
+-- The run stops before the first line.
+pub stops_first : (clients : ℕ) (told : Option (List ℕ)) (text : List ℕ) (left : Option (List ℕ)) → HasStopped clients told text left told Starved []
+stops_first clients told text left = record {
+  read = [];
+  later = lines text;
+  lines_are = refl;
+  dealt = [];
+  are_dealt = (refl, refl);
+  clock = refl;
+  read_to = tt;
+}
+
+-- ---- scripts that are moved
+
+-- One more was moved.
+pub moved_one : (all : List (Vec Item Global)) (old new : List (List Item)) (script : Vec Item Global) (rest later : List (Vec Item Global)) → scripts_in all ≡ old ++ scripts_in rest → rest ≡ script ∷ later
+    → new ≡ old ++ script.items ∷ [] → scripts_in all ≡ new ++ scripts_in later
+moved_one all old new script rest later was next added =
+    was
+    ∙ ap (λ (r : List (Vec Item Global)). old ++ scripts_in r) next
+    ∙ sym (append_assoc old (script.items ∷ []) (scripts_in later))
+    ∙ ap (λ (n : List (List Item)). n ++ scripts_in later) (sym added)
+
+-- All were, and two more stand behind them.
+pub moved_all : (all moved one two : List (List Item)) (cuts joins : List Item) → all ≡ moved ++ [] → one ≡ moved ++ cuts ∷ [] → two ≡ one ++ joins ∷ [] → two ≡ all ++ cuts ∷ joins ∷ []
+moved_all all moved one two cuts joins none first second =
+    second
+    ∙ ap (λ (o : List (List Item)). o ++ joins ∷ []) first
+    ∙ append_assoc moved (cuts ∷ []) (joins ∷ [])
+    ∙ ap (λ (m : List (List Item)). m ++ cuts ∷ joins ∷ []) (sym (none ∙ append-nil moved))
+
+-- One more was made.
+pub made_one : (old new : List (Vec Item Global)) (n : ℕ) (script : Vec Item Global) → scripts_in old ≡ replicate n [] → new ≡ old ++ script ∷ [] → script.items ≡ [] → scripts_in new ≡ replicate (n + 1) []
+made_one old new n script was added none =
+    ap scripts_in added
+    ∙ map-append (λ (s : Vec Item Global). s.items) old (script ∷ [])
+    ∙ ap₂ (λ (o : List (List Item)) (s : List Item). o ++ s ∷ []) was none
+    ∙ replicate_more n []
+
+-- A script of one client was put in the place of its old one.
+pub put_one : (old new : List (Vec Item Global)) (client : ℕ) (before after : Vec Item Global) (item : Item) → client < length old → before ≡ get_or old client before → new ≡ slice_set old client after
+    → after.items ≡ before.items ++ item ∷ [] → scripts_in new ≡ slice_set (scripts_in old) client (get_or (scripts_in old) client [] ++ item ∷ [])
+put_one old new client before after item within was set more =
+    let read : get_or (scripts_in old) client [] ≡ before.items = get_or-map (λ (s : Vec Item Global). s.items) old client before [] within ∙ ap (λ (s : Vec Item Global). s.items) (sym was) in
+    ap scripts_in set
+    ∙ map-set (λ (s : Vec Item Global). s.items) old client after
+    ∙ ap (λ (xs : List Item). slice_set (scripts_in old) client xs) (more ∙ ap (λ (xs : List Item). xs ++ item ∷ []) (sym read))

@@ -13,12 +13,14 @@ use Rattle.port_history.proofs.Chains.{entries_made, legal_history}
 use Rattle.session_text.specs.Items.{Item}
 use Rattle.store_core.specs.Cores.{CoreShows, CoreStandsFor, unsure_of}
 use Rattle.store_core.specs.Opening.{KeepsDisk, OpensAs, OpensOver, StoreBreaks}
-use Rattle.store_core.specs.Port.{port_of}
+use Rattle.store_core.specs.Port.{port_of, shown_by}
 use Rattle.store_core.specs.declared.store.Core.{Core}
 use Rattle.store_entries.specs.declared.entry.Entry.{Entry as Added}
 use Rattle.store_images.specs.Stored.{IsTidy, KeepsStored}
+use Rattle.store_images.proofs.Lists.{not_in_nil}
 use Rattle.store_model.specs.History.{History, count_of}
 use Rattle.store_model.specs.Step.{Machine, Step}
+use Rattle.store_state.specs.Cores.{CoreKnows}
 use Rattle.store_reopen.specs.Through.{KeepsThrough}
 use Rattle.store_reopen.proofs.Through.{event_goes_on}
 use Rattle.session_meaning.specs.declared.ending.Ending.{Ending}
@@ -29,7 +31,7 @@ use Rattle.session_meaning.specs.Runs.{Edges, HasCause, IsPastOpening, told_byte
 use Rattle.session_meaning.specs.ServedRuns.{EndsServing, IsServedRun, RecoversServed, Served}
 use Rattle.session_meaning.specs.Serving.{Ran}
 use Rattle.session_meaning.specs.Stops.{AreTidy}
-use Rattle.session_meaning.proofs.CoreSessions.{StandsThrough, knows_all}
+use Rattle.session_meaning.proofs.CoreSessions.{StandsThrough}
 use Rattle.session_meaning.proofs.OnDisk.{calls_tidy, lists_state}
 use Rattle.trace_shell.specs.Serving.{CameServing}
 use Rattle.trace_shell.proofs.RunLemmas.{cause_of, if_told}
@@ -68,10 +70,21 @@ led {D} g is_with keeps old new (e ∷ es) made m stands =
       lead = (g.faults made.0.disk, one.0, counted_by e.reply (g.faults old.disk) (g.faults made.0.disk) counts.quiet counts.fault, one.2, rest.lead);
     }
 
+-- A core knows the history of a machine that it stands for.
+knows_all : {D : Type 0} (g : Ghosts D) (core : Core D) (m : Machine) → CoreStandsFor g core m → CoreKnows (shown_by g) core (record { history = m.history; holds = [] })
+knows_all g core m stands = record {
+  machine = m;
+  stands = stands;
+  agrees = stands.stands.agrees;
+  sound = stands.stands.sound;
+  history = refl;
+  open_holds = λ hold inside. absurd (not_in_nil hold inside);
+}
+
 -- ---- how a run ends
 
 -- Whoever served clients had opened the store.
-serving_past : (e : Ending) (answers : List Answered) (old new : Option (List ℕ)) → EndsServing e answers old new → IsPastOpening e
+pub serving_past : (e : Ending) (answers : List Answered) (old new : Option (List ℕ)) → EndsServing e answers old new → IsPastOpening e
 serving_past answered answers old new ends = tt
 serving_past Refused answers old new ends = tt
 serving_past Starved answers old new ends = tt

@@ -1,11 +1,16 @@
 -- What serving clients comes to over a core that was opened, and what its words ask.
-use Rattle.std.proofs.Common.{◌≡◌, ◌⊎◌, inl, inr, ◌∙◌, true, false, ℕ, ◌*◌, ◌≤◌, List, [], ◌∷◌, ◌++◌, Option, Some, ap, append-nil, arith, refl, subst, sym}
+use Rattle.std.proofs.Common.{◌≡◌, ◌⊎◌, inl, inr, ◌∙◌, true, false, ℕ, ◌+◌, ◌*◌, ◌^◌, ◌≤◌, List, [], ◌∷◌, ◌++◌, Option, Some, Result, Ok, ap, append-nil, arith, length, length-append, refl, subst, sym}
+use Rattle.std.specs.Prelude.{IfOk}
 use Rattle.client_scripts.specs.Served.{HasServed}
-use Rattle.command_words.specs.Commands.{Alone, Command, Drill, Ingest, Serve, Session, Spells, serve}
+use Rattle.client_scripts.specs.declared.script.Answered.{Answered}
+use Rattle.command_words.specs.Commands.{Alone, Command, Drill, Ingest, Serve, Session, Spells, command_of, serve}
+use Rattle.command_words.specs.declared.asked.Asked.{Asked}
+use Rattle.command_words.specs.declared.asked.Asked.TheVariants as asks
 use Rattle.command_words.specs.Spelling.{begins_to_serve}
 use Rattle.command_words.proofs.Spelled.{begins_serves, serve_begins}
 use Rattle.disk_model.specs.declared.disk.Device.{Ghosts}
 use Rattle.io_edges.specs.Lines.{lines}
+use Rattle.port_history.specs.Entries.{Entry}
 use Rattle.session_text.specs.Items.{Item}
 use Rattle.store_core.specs.Port.{port_of}
 use Rattle.store_core.specs.declared.store.Core.{Core}
@@ -19,7 +24,7 @@ use Rattle.session_meaning.specs.Serving.{AreCuts, after_moments, compactions}
 use Rattle.trace_shell.specs.Dealing.{HasDealt, HasStopped, IsEarly}
 use Rattle.trace_shell.specs.Serving.{CameServing}
 use Rattle.trace_shell.proofs.RunLemmas.{if_some}
-use Rattle.trace_shell.proofs.WritingLemmas.{prefix_none}
+use Rattle.trace_shell.proofs.WritingLemmas.{starved_ends}
 
 -- ---- words
 
@@ -41,6 +46,14 @@ serving_reads words c asks begins takes = let is = begins_serves words c begins 
 pub few_clients : (words : List (List ℕ)) (clients rounds : ℕ) → Spells words (Serve clients rounds) → (1 ≤ clients) × (clients ≤ 16)
 few_clients words clients rounds (serve c r told is count clean few many most) = (few, many)
 
+-- What asks for that was read so.
+pub is_to_serve : (asked : Asked) → ((clients rounds : ℕ) × (command_of asked ≡ Serve clients rounds)) → (clients rounds : ℕ) × (asked ≡ asks.Serve clients rounds)
+is_to_serve asks.Session (clients, rounds, is) = let bad : ⊥ = cc in absurd bad
+is_to_serve (asks.Serve clients rounds) serves = (clients, rounds, refl)
+is_to_serve asks.Ingest (clients, rounds, is) = let bad : ⊥ = cc in absurd bad
+is_to_serve (asks.Drill seed traces) (clients, rounds, is) = let bad : ⊥ = cc in absurd bad
+is_to_serve (asks.Alone line) (clients, rounds, is) = let bad : ⊥ = cc in absurd bad
+
 -- ---- where nothing was asked
 
 -- no call was made of a store
@@ -56,7 +69,7 @@ none_served meaning old new same = record {
 pub ends_early : (e : Ending) (old : Option (List ℕ)) → IsEarly e → EndsServing e [] old old
 ends_early e old (inl is) = subst (λ (x : Ending). EndsServing x [] old old) (sym is) refl
 ends_early e old (inr (inl is)) = subst (λ (x : Ending). EndsServing x [] old old) (sym is) refl
-ends_early e old (inr (inr is)) = subst (λ (x : Ending). EndsServing x [] old old) (sym is) (inr (prefix_none old []))
+ends_early e old (inr (inr is)) = subst (λ (x : Ending). EndsServing x [] old old) (sym is) (starved_ends old [])
 
 module _ (clients rounds : ℕ) (told : Option (List ℕ)) (text : List ℕ) where
   pub asks_stopped : (left to_tell : Option (List ℕ)) (e : Ending) (blamed : List (List ℕ)) → IsEarly e → HasStopped clients told text left to_tell e blamed
@@ -153,3 +166,46 @@ came_unasked g clients rounds core later old_left left old_taken taken told to_t
   asked = if_some old_left (λ text. AsksAll clients rounds text e [] blamed told to_tell ⊎ AsksNone clients rounds text left e [] blamed told to_tell) (λ text is. inr (asks text is));
   ends = ends;
 }
+
+module _ {D : Type 0} (g : Ghosts D) (clients rounds : ℕ) (core : Core D) (old_left left old_taken told : Option (List ℕ)) where
+  -- The lines weren't read to their end.
+  pub came_stopped : (to_tell : Option (List ℕ)) (e : Ending) (blamed : List (List ℕ)) → IsEarly e
+      → ((text : List ℕ) → old_left ≡ Some text → HasStopped clients told text left to_tell e blamed)
+      → CameServing g clients rounds core core old_left left old_taken old_taken told to_tell e blamed
+  came_stopped to_tell e blamed early stopped =
+      came_unasked g clients rounds core core old_left left old_taken old_taken told to_tell e blamed refl (ends_early e old_taken early)
+      (λ text is. asks_stopped clients rounds told text left to_tell e blamed early (stopped text is))
+
+  module _ (between to_tell : Option (List ℕ)) (scripts : List (List Item)) (blamed : List (List ℕ))
+      (dealt : (text : List ℕ) → old_left ≡ Some text → HasDealt clients told text between scripts blamed) where
+    -- They were, and memory was wanted then.
+    pub came_starved : (later : Core D) → later ≡ core → (to_tell ≡ between) ⊎ (to_tell ≡ after_moments (4 * rounds) between)
+        → CameServing g clients rounds core later old_left left old_taken old_taken told to_tell Starved blamed
+    came_starved later same clock =
+        came_unasked g clients rounds core later old_left left old_taken old_taken told to_tell Starved blamed same (starved_ends old_taken [])
+        (λ text is. asks_starved clients rounds told text left between to_tell scripts blamed (dealt text is) clock)
+
+    -- All was asked.
+    pub came_asked : (later : Core D) (taken : Option (List ℕ)) (e : Ending) (all : List (List Item)) (cuts : List Item) (answers : List Answered) (entries : List Entry)
+        → AreCuts rounds between cuts → all ≡ scripts ++ cuts ∷ compactions rounds ∷ [] → to_tell ≡ after_moments (4 * rounds) between
+        → HasServed (port_of g) core entries all answers later → EndsServing e answers old_taken taken → NeedsNoSource e
+        → CameServing g clients rounds core later old_left left old_taken taken told to_tell e blamed
+    came_asked later taken e all cuts answers entries are_cuts is clock did ends no_source = record {
+      scripts = all;
+      answers = answers;
+      entries = entries;
+      served = did;
+      asked = if_some old_left (λ text. AsksAll clients rounds text e all blamed told to_tell ⊎ AsksNone clients rounds text left e all blamed told to_tell)
+          (λ text source. inl (asks_all clients rounds told text left between to_tell scripts blamed (dealt text source) e all cuts are_cuts is clock no_source));
+      ends = ends;
+    }
+
+-- what holds of what was handed over
+pub of_ok : {A E : Type 0} (r : Result A E) (P : A → Type 0) (a : A) → r ≡ Ok a → IfOk r P → P a
+of_ok {A} {E} r P a is held = subst (λ (x : Result A E). IfOk x P) is held
+
+-- Two scripts more are few.
+pub few_scripts : (scripts all : List (List Item)) (cuts joins : List Item) → all ≡ scripts ++ cuts ∷ joins ∷ [] → length scripts ≤ 16 → length all ≤ 2 ^ 31
+few_scripts scripts all cuts joins is few =
+    let two : length all ≡ length scripts + 2 = ap (λ (ss : List (List Item)). length ss) is ∙ length-append scripts (cuts ∷ joins ∷ []) in
+    omega (arith, two, few)

@@ -1,5 +1,5 @@
 -- What is written down to keep a store up.
-use Rattle.std.proofs.Common.{◌≡◌, ◌∙◌, ℕ, zero, suc, ◌+◌, ◌*◌, List, [], ◌∷◌, ◌++◌, Option, Ok, ap, arith, refl, subst}
+use Rattle.std.proofs.Common.{◌≡◌, ◌∙◌, ℕ, zero, suc, ◌+◌, ◌*◌, List, [], ◌∷◌, ◌++◌, Option, Ok, ap, append_assoc, arith, refl, subst}
 use Rattle.session_text.specs.declared.request.Request.TheVariants.{Compact, Cut, Flush, Reclaim}
 use Rattle.session_text.specs.Items.{Item}
 use Rattle.session_meaning.specs.Asked.{IsNextMoment, after_moment}
@@ -10,7 +10,9 @@ use Rattle.session_meaning.specs.Serving.{AreCuts, after_moments, compactions}
 -- One more moment is asked for.
 pub after_more : (n : ℕ) (told : Option (List ℕ)) → after_moment (after_moments n told) ≡ after_moments (n + 1) told
 after_more zero told = refl
-after_more (suc n) told = after_more n (after_moment told)
+after_more (suc n) told =
+    let next : suc (n + 1) ≡ suc n + 1 = omega arith in
+    after_more n (after_moment told) ∙ ap (λ (k : ℕ). after_moments k told) next
 
 -- Two more are.
 pub after_two : (n : ℕ) (told now : Option (List ℕ)) → now ≡ after_moments (2 * n) told → after_moment (after_moment now) ≡ after_moments (2 * (n + 1)) told
@@ -43,7 +45,9 @@ pub cuts_more : (n : ℕ) (told : Option (List ℕ)) (items : List Item) (moment
     → AreCuts (n + 1) told (items ++ Ok (Cut moment) ∷ Ok Flush ∷ [])
 cuts_more zero told items moment none next = rw none (moment, [], next, refl, refl)
 cuts_more (suc n) told items moment (first, later, at_first, is, rest) next =
-    let two : 2 * suc n ≡ suc (suc (2 * n)) = omega arith in (
+    let more : suc (n + 1) ≡ suc n + 1 = omega arith in
+    let two : 2 * suc n ≡ suc (suc (2 * n)) = omega arith in
+    subst (λ (k : ℕ). AreCuts k told (items ++ Ok (Cut moment) ∷ Ok Flush ∷ [])) more (
       first,
       later ++ Ok (Cut moment) ∷ Ok Flush ∷ [],
       at_first,
@@ -54,4 +58,10 @@ cuts_more (suc n) told items moment (first, later, at_first, is, rest) next =
 -- A round more of compactions.
 pub compactions_more : (n : ℕ) → compactions (n + 1) ≡ compactions n ++ Ok Compact ∷ Ok Reclaim ∷ []
 compactions_more zero = refl
-compactions_more (suc n) = ap (λ (xs : List Item). Ok Compact ∷ Ok Reclaim ∷ xs) (compactions_more n)
+compactions_more (suc n) =
+    let more : suc n + 1 ≡ suc (n + 1) = omega arith in
+    ap compactions more ∙ ap (λ (xs : List Item). Ok Compact ∷ Ok Reclaim ∷ xs) (compactions_more n)
+
+-- Two requests were put behind others.
+pub put_both : (old between new : List Item) (one two : Item) → between ≡ old ++ one ∷ [] → new ≡ between ++ two ∷ [] → new ≡ old ++ one ∷ two ∷ []
+put_both old between new one two first second = second ∙ ap (λ (xs : List Item). xs ++ two ∷ []) first ∙ append_assoc old (one ∷ []) (two ∷ [])

@@ -1,6 +1,7 @@
 -- Private mechanism of serving: how replies are written, and what serving comes to over a core that was opened. A run is specified in
 -- session_meaning.
-use Rattle.std.specs.Prelude.{◌≡◌, ℕ, List, [], ◌∷◌, Option, Some, None}
+use Rattle.std.specs.Prelude.{◌≡◌, ℕ, List, [], ◌∷◌, ◌++◌, Option, Some, None}
+use Rattle.std.specs.List.{concat}
 use Rattle.std.specs.Io.KnownBytes.{Appends}
 use Rattle.client_scripts.specs.Served.{HasServed}
 use Rattle.client_scripts.specs.declared.script.Answered.{Answered}
@@ -24,13 +25,14 @@ abbrev pub tally_after : Tally → List Reply → Tally
 tally_after tally [] = tally
 tally_after tally (reply ∷ replies) = tally_after (tally_with tally reply) replies
 
--- Replies with this text were written whole, one after another; or memory was wanted for the text of one, or the sink failed, and a first
--- part was written.
-abbrev pub HaveBeenGiven : Option (List ℕ) → Option (List ℕ) → Tally → Tally → List Reply → List ℕ → Option Ending → Type 0
-HaveBeenGiven old new tally_old tally_new replies text None = Appends old new text × (tally_new ≡ tally_after tally_old replies)
-HaveBeenGiven old new tally_old tally_new replies text (Some Starved) = AppendsPrefix old new text
-HaveBeenGiven old new tally_old tally_new replies text (Some WriteFault) = AppendsPrefix old new text
-HaveBeenGiven old new tally_old tally_new replies text (Some _) = ⊥
+-- Replies with these texts were written whole, one after another; or memory was wanted for the text of one, and those before it were; or
+-- the sink failed, and a first part was written.
+abbrev pub HaveBeenGiven : Option (List ℕ) → Option (List ℕ) → Tally → Tally → List Reply → List (List ℕ) → Option Ending → Type 0
+HaveBeenGiven old new tally_old tally_new replies texts None = Appends old new (concat texts) × (tally_new ≡ tally_after tally_old replies)
+HaveBeenGiven old new tally_old tally_new replies texts (Some Starved) =
+    (first later : List (List ℕ)) × (texts ≡ first ++ later) × Appends old new (concat first)
+HaveBeenGiven old new tally_old tally_new replies texts (Some WriteFault) = AppendsPrefix old new (concat texts)
+HaveBeenGiven old new tally_old tally_new replies texts (Some _) = ⊥
 
 -- ---- what serving comes to
 

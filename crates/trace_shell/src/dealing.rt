@@ -69,7 +69,8 @@ pub(crate) fn read_scripts<S: Source, C: Clock, P: PatternMaker>(
 
 // So many scripts that ask nothing.
 fn empty_scripts(alloc: Global, clients: u32) -> Result<Vec<Vec<Item>>, Memory>
-    ensures { IfOk result (λ scripts. scripts_in scripts.items ≡ replicate clients []) }
+    ensures none { IfOk result (λ scripts. scripts_in scripts.items ≡ replicate clients []) }
+    ensures as_many { IfOk result (λ scripts. vec_len scripts ≡ clients) }
 {
     let mut scripts = Vec::new(alloc);
     for _client in 0..clients {
@@ -196,40 +197,43 @@ fn client_of(clients: u32, line: &[u8]) -> Option<(u32, &[u8])>
 
 // A number below 20 in decimal digits that stands before one space, and what follows that.
 fn number_and_rest(line: &[u8]) -> Option<(u32, &[u8])>
-    ensures one { IfSome result (λ found. found.0 < 20) }
+    ensures few { IfSome result (λ found. found.0 < 20) }
     ensures is { IfSome result (λ found. line.now ≡ decimal found.0 ++ 32 ∷ found.1.now) }
     ensures none { IfNone result ((number : ℕ) (rest : List ℕ) → number < 20
         → line.now ≡ decimal number ++ 32 ∷ rest → ⊥) }
 {
-    let [first, later @ ..] = line else {
-        return None;
-    };
-    let one = digit_of(*first)?;
-    let [second, after @ ..] = later else {
-        return None;
-    };
-    if *second == b' ' {
-        return Some((one, after));
+    let (one, later) = digit_and_rest(line)?;
+    if let Some(rest) = after_space(later) {
+        return Some((one, rest));
     }
     if one != 1 {
         return None;
     }
-    let two = digit_of(*second)?;
-    let [third, rest @ ..] = after else {
-        return None;
-    };
-    (*third == b' ').then_some((10 + two, rest))
+    let (two, later) = digit_and_rest(later)?;
+    let rest = after_space(later)?;
+    Some((10 + two, rest))
 }
 
-// The decimal digit that a byte is.
-fn digit_of(byte: u8) -> Option<u32>
-    ensures is { IfSome result (λ digit. (digit < 10) × (byte ≡ 48 + digit)) }
-    ensures none { IfNone result ((digit : ℕ) → digit < 10 → byte ≡ 48 + digit → ⊥) }
+// The decimal digit that a text begins with, and what follows it.
+fn digit_and_rest(text: &[u8]) -> Option<(u32, &[u8])>
+    ensures few { IfSome result (λ found. found.0 < 10) }
+    ensures is { IfSome result (λ found. text.now ≡ (48 + found.0) ∷ found.1.now) }
+    ensures none { IfNone result ((digit : ℕ) (rest : List ℕ) → digit < 10
+        → text.now ≡ (48 + digit) ∷ rest → ⊥) }
 {
-    if byte < b'0' || byte > b'9' {
-        return None;
+    let (first, rest) = text.split_first()?;
+    match *first {
+        digit @ b'0'..=b'9' => Some((u32::from(digit - b'0'), rest)),
+        _ => None,
     }
-    Some(u32::from(byte - b'0'))
+}
+
+// What follows the space that a text begins with.
+fn after_space(text: &[u8]) -> Option<&[u8]>
+    ensures is { IfSome result (λ rest. text.now ≡ 32 ∷ rest.now) }
+    ensures none { IfNone result ((rest : List ℕ) → text.now ≡ 32 ∷ rest → ⊥) }
+{
+    text.strip_prefix(b" ")
 }
 
 // Puts what a client asks behind what it asked before.
@@ -241,10 +245,10 @@ fn give(scripts: &mut Vec<Vec<Item>>, client: u32, item: Item) -> After
     ensures turned { (result ≡ After.Line) ⊎ (result ≡ After.Ending Ending.Starved) }
 {
     let script = &mut scripts[client as usize];
-    match script.push(item) {
-        Ok(()) => After::Line,
-        Err(_) => After::Ending(Ending::Starved),
-    }
+    let Ok(()) = script.push(item) else {
+        return After::Ending(Ending::Starved);
+    };
+    After::Line
 }
 
 /// What the clients ask, and behind that two scripts that keep the store up, so many rounds each: one of cuts and
@@ -281,6 +285,7 @@ pub(crate) fn with_upkeep<C: Clock>(
 fn add(all: &mut Scripts, script: Vec<Item>)
     requires { vec_len all.old < vec_capacity all.old }
     ensures added { all.new.items ≡ all.old.items ++ script.items ∷ [] }
+    ensures longer { vec_len all.new ≡ vec_len all.old + 1 }
     ensures room { vec_capacity all.old ≤ vec_capacity all.new }
 {
     let Ok(()) = all.push(Seq::of(script)) else {
@@ -322,6 +327,7 @@ fn compact_and_reclaim<C: Clock>(items: &mut Vec<Item>, rounds: u32, clock: &mut
 fn put(items: &mut Vec<Item>, request: Request)
     requires { vec_len items.old < vec_capacity items.old }
     ensures put { items.new.items ≡ items.old.items ++ Ok request ∷ [] }
+    ensures longer { vec_len items.new ≡ vec_len items.old + 1 }
     ensures room { vec_capacity items.old ≤ vec_capacity items.new }
 {
     let Ok(()) = items.push(Ok(request)) else {

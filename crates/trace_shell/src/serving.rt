@@ -17,8 +17,8 @@ ghost use Rattle.store_images.specs.Stored.{IsSoundImage};
 ghost use Rattle.session_meaning.specs.declared.ending.Ending.TheVariants.{NotOpened, ReadFault, Spent, WriteFault};
 ghost use Rattle.session_meaning.specs.Runs.{IsPastOpening, IsRunOf, Outcome, edges};
 ghost use Rattle.session_meaning.specs.ServedRuns.{EndsServing, IsServedRun, RecoversServed, Served, ServesAs, all_replies};
-ghost use Rattle.session_meaning.specs.Serving.{replies_to, reply_to, served_text};
-ghost use Rattle.session_meaning.specs.Stops.{Recovers};
+ghost use Rattle.session_meaning.specs.Serving.{reply_to, served_texts, texts_to};
+ghost use Rattle.session_meaning.specs.Stops.{FindsBytes, Recovers};
 ghost use Rattle.traceql_types.specs.Makers.{RefusesOnly};
 ghost use Rattle.trace_shell.specs.Serving.{CameServing, HaveBeenGiven};
 ghost use Rattle.trace_shell.specs.Turn.{HasDone};
@@ -65,7 +65,8 @@ pub(crate) fn serve_words<
         × RefusesOnly P.makes patterns.old patterns.new o.refused
         × IsRunOf false (map string_bytes words.now) o
         (edges S.left S.faults K.taken K.faults C.moments D.Device.own source.old sink.old clock.old disk)
-        (edges S.left S.faults K.taken K.faults C.moments D.Device.own source.new sink.new clock.new result.1))
+        (edges S.left S.faults K.taken K.faults C.moments D.Device.own source.new sink.new clock.new result.1)
+        × FindsBytes D.Device.own disk result.1 o)
         ⊎ ((s : Served) × (s.ending ≡ result.0)
         × RefusesOnly P.makes patterns.old patterns.new s.refused
         × ServesAs false (map string_bytes words.now) s
@@ -93,14 +94,17 @@ pub(crate) fn serve_words<
         → LeavesAlone D.Device.own disk result.1 }
     ensures unread { (IsPastOpening result.0 → ⊥) → source.new ≡ source.old }
 {
-    match read_words(alloc, words) {
-        Ok(Asked::Serve { clients, rounds }) => serve_on_store(
-            rt, alloc, clients, rounds, source, sink, disk, clock, patterns, gate,
-        ),
-        Ok(_) => unreachable!(),
-        Err(WordsError::Refused) => (Ending::BadWords, disk),
-        Err(WordsError::Memory) => (Ending::Starved, disk),
-    }
+    let asked = match read_words(alloc, words) {
+        Ok(asked) => asked,
+        Err(WordsError::Refused) => return (Ending::BadWords, disk),
+        Err(WordsError::Memory) => return (Ending::Starved, disk),
+    };
+    let Asked::Serve { clients, rounds } = asked else {
+        unreachable!()
+    };
+    serve_on_store(
+        rt, alloc, clients, rounds, source, sink, disk, clock, patterns, gate,
+    )
 }
 
 // Opens the store of the disk, serves so many clients, and closes it.
@@ -130,7 +134,8 @@ fn serve_on_store<
         × RefusesOnly P.makes patterns.old patterns.new o.refused
         × HasDone false (Serve clients rounds) o
         (edges S.left S.faults K.taken K.faults C.moments D.Device.own source.old sink.old clock.old disk)
-        (edges S.left S.faults K.taken K.faults C.moments D.Device.own source.new sink.new clock.new result.1))
+        (edges S.left S.faults K.taken K.faults C.moments D.Device.own source.new sink.new clock.new result.1)
+        × FindsBytes D.Device.own disk result.1 o)
         ⊎ ((s : Served) × (s.ending ≡ result.0)
         × RefusesOnly P.makes patterns.old patterns.new s.refused
         × IsServedRun false clients rounds s
@@ -207,10 +212,10 @@ fn serve<
         return (Ending::Starved, core);
     };
     let (core, answers) = run_scripts(rt, alloc, core, scripts, gate);
-    let ending = match answers {
-        Ok(answers) => write_all(alloc, sink, answers.as_slice()),
-        Err(Memory) => Ending::Starved,
+    let Ok(answers) = answers else {
+        return (Ending::Starved, core);
     };
+    let ending = write_all(alloc, sink, answers.as_slice());
     (ending, core)
 }
 
@@ -245,7 +250,7 @@ fn write_answers<K: Sink>(
     answers: &[Answered],
 ) -> Option<Ending>
     ensures given { HaveBeenGiven (K.taken sink.old) (K.taken sink.new) tally.old tally.new
-        (all_replies answers.now) (served_text 0 answers.now) result }
+        (all_replies answers.now) (served_texts 0 answers.now) result }
     ensures sink_counted { K.faults sink.old ≤ K.faults sink.new }
     ensures write_fault { IfSome result (λ ending. ending ≡ WriteFault
         → Rose (K.faults sink.old) (K.faults sink.new)) }
@@ -268,7 +273,7 @@ fn write_replies<K: Sink>(
     replies: &[Reply],
 ) -> Option<Ending>
     ensures given { HaveBeenGiven (K.taken sink.old) (K.taken sink.new) tally.old tally.new
-        replies.now (replies_to client replies.now) result }
+        replies.now (texts_to client replies.now) result }
     ensures sink_counted { K.faults sink.old ≤ K.faults sink.new }
     ensures write_fault { IfSome result (λ ending. ending ≡ WriteFault
         → Rose (K.faults sink.old) (K.faults sink.new)) }
@@ -290,7 +295,7 @@ fn write_to<K: Sink>(
     reply: &Reply,
 ) -> Option<Ending>
     ensures given { HaveBeenGiven (K.taken sink.old) (K.taken sink.new) tally.old tally.new
-        (reply.now ∷ []) (reply_to client reply.now) result }
+        (reply.now ∷ []) (reply_to client reply.now ∷ []) result }
     ensures sink_counted { K.faults sink.old ≤ K.faults sink.new }
     ensures write_fault { IfSome result (λ ending. ending ≡ WriteFault
         → Rose (K.faults sink.old) (K.faults sink.new)) }

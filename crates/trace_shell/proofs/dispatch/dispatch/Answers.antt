@@ -5,7 +5,11 @@ use Rattle.session_meaning.specs.declared.ending.Ending.TheVariants.{BadWords, S
 use Rattle.session_meaning.specs.Runs.{Edges, TakesNothing, edges}
 use Rattle.traceql_types.proofs.Calls.{refuses-none}
 use Rattle.trace_shell.proofs.RunLemmas.{is_run, left_same, refused_runs, starved_runs, unopened, untouched_recovers}
+use Rattle.trace_shell.proofs.ServingLemmas.{for_one}
 use Rattle.trace_shell.proofs.dispatch.dispatch.Goals as goal
+
+pub on_store-requires-after_bounds : goal.on_store-requires-after_bounds
+on_store-requires-after_bounds g c = λ κs outlives. for_one (map string_bytes c.args.words.now) (command_of c.in-Ok.asked) c.in-Ok.ensures.asked c.requires
 
 pub returns-in-Ok-clause-ran : goal.returns-in-Ok-clause-ran
 returns-in-Ok-clause-ran g c =

@@ -2,7 +2,7 @@ use Rattle.std.proofs.Common.{◌≡◌, [], ◌∷◌, List, map, refl, string_
 use Rattle.command_words.specs.Commands.{command_of}
 use Rattle.session_meaning.specs.Act.Act.{Ask}
 use Rattle.session_meaning.specs.Asked.{AsksNext}
-use Rattle.session_meaning.specs.Runs.{TakesNothing}
+use Rattle.session_meaning.specs.Runs.{IsForOne, TakesNothing}
 use Rattle.store_core.specs.Port.{port_of}
 use Rattle.store_reopen.specs.declared.store.Store.TheVariants.{Open}
 use Rattle.traceql_types.proofs.Calls.{refuses-none}
@@ -10,6 +10,9 @@ use Rattle.trace_shell.specs.Turn.{CameOver}
 use Rattle.trace_shell.proofs.AloneLemmas.{alone_ends}
 use Rattle.session_meaning.proofs.SessionLaws.{over_one}
 use Rattle.trace_shell.proofs.dispatch.do_asked.Goals as goal
+
+pub unreachable-requires : goal.unreachable-requires
+unreachable-requires g c = subst (λ a. IsForOne (command_of a)) c.in-Serve.is c.requires.one
 
 pub returns-in-Session-clause-came : goal.returns-in-Session-clause-came
 returns-in-Session-clause-came g c =

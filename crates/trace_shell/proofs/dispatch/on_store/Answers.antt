@@ -21,8 +21,8 @@ use Rattle.trace_shell.proofs.RunLemmas.{cause_of, if_told, no_fault, unopened, 
 use Rattle.trace_shell.proofs.StoreLemmas.{came_kept, came_shown, done_over, holds_nothing, in_a_store, opened_done, opened_recovers}
 use Rattle.trace_shell.proofs.dispatch.on_store.Goals as goal
 
-pub do_asked-ending-requires-after_bounds : goal.do_asked-ending-requires-after_bounds
-do_asked-ending-requires-after_bounds g c = λ κs outlives.
+pub do_asked-ending-requires-clause-holds : goal.do_asked-ending-requires-clause-holds
+do_asked-ending-requires-clause-holds g c κs outlives =
     let begins = c.in-Ok.ensures.opened.begins in ([], holds_nothing g.D.Device c.in-Ok.core begins.0 begins.1.shows)
 
 pub returns-in-Ok-clause-ran : goal.returns-in-Ok-clause-ran

@@ -1,0 +1,8 @@
+use Rattle.headline.proofs.laws.the_headline_of_clients.Goals as goal
+
+pub returns-clause-answers : goal.returns-clause-answers
+returns-clause-answers g c words s old new serves =
+    c.what_was_seen_counts.ensures s.first s.last s.scripts s.answers s.entries serves.3.ran
+
+pub returns-clause-stored : goal.returns-clause-stored
+returns-clause-stored g c s recovers = (recovers.begins.stored, recovers.returned)
