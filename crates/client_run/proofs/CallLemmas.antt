@@ -1,8 +1,7 @@
 -- How calls of a port follow one another.
 use Rattle.std.proofs.Common.{◌≡◌, List, [], ◌∷◌, ◌++◌, refl, sym, ◌∙◌, ap, subst, append-nil, append_assoc}
 use Rattle.store_model.specs.Holds.{Hold, holds_after}
-use Rattle.store_model.specs.Event.{Event as event, Reply as reply}
-use Rattle.store_state.specs.Meaning.{Meaning, Called}
+use Rattle.store_state.specs.Meaning.{Meaning}
 use Rattle.client_run.specs.declared.event.Event.{Event}
 use Rattle.client_run.specs.declared.event.EventReply.{EventReply}
 use Rattle.store_state.specs.Made.{Call, AreMade}
