@@ -409,18 +409,24 @@ const NEIGHBOURS: &str = r#"{1<-1} => { 1 < - 1 }
 {}|select(,.a) => unexpected 10
 {}|select(.a,,.b) => unexpected 13"#;
 
-/// A refusal and its offset, as the tables write it.
-pub fn refusal(alloc: Global, error: ParseError) -> Result<String, AllocError> {
+/// A refusal, and its offset or length.
+fn refusal_at(error: ParseError) -> (&'static str, u64) {
     match error {
-        ParseError::BadChar { at } => format!(in alloc; "bad-char {at}"),
-        ParseError::Unexpected { at } => format!(in alloc; "unexpected {at}"),
-        ParseError::Unended { at } => format!(in alloc; "unended {at}"),
-        ParseError::NumberRange { at } => format!(in alloc; "number-range {at}"),
-        ParseError::FractionLiteral { at } => format!(in alloc; "fraction-literal {at}"),
-        ParseError::TooLong { length } => format!(in alloc; "too-long {length}"),
-        ParseError::TooDeep { at } => format!(in alloc; "too-deep {at}"),
-        ParseError::Memory => String::from_str(alloc, "memory"),
+        ParseError::BadChar { at } => ("bad-char", at),
+        ParseError::Unexpected { at } => ("unexpected", at),
+        ParseError::Unended { at } => ("unended", at),
+        ParseError::NumberRange { at } => ("number-range", at),
+        ParseError::FractionLiteral { at } => ("fraction-literal", at),
+        ParseError::TooLong { length } => ("too-long", length),
+        ParseError::TooDeep { at } => ("too-deep", at),
+        ParseError::Memory => ("memory", 0),
     }
+}
+
+/// The same as the tables write it.
+pub fn refusal(alloc: Global, error: ParseError) -> Result<String, AllocError> {
+    let (word, at) = refusal_at(error);
+    format!(in alloc; "{word} {at}")
 }
 
 /// A text's query, printed, or why it is none.
