@@ -51,13 +51,11 @@ fn block(rt: &(impl Abort + AllocGlobal), traces: u32, rows: u32) -> BuiltBlock 
     build(rt.alloc(), all).expect(rt, "memory")
 }
 
-/// These bytes as a file, of which the reads with these numbers fail.
-fn file(alloc: Global, bytes: &[u8], failing: &[u64]) -> Result<MemPages, Memory> {
+/// These bytes as a file.
+fn file(alloc: Global, bytes: &[u8]) -> Result<MemPages, Memory> {
     let mut copy = Vec::new(alloc);
     copy.extend_from_slice(bytes)?;
-    let mut calls = Vec::new(alloc);
-    calls.extend_from_slice(failing)?;
-    Ok(MemPages::new(FILE, Bytes::of(copy), Calls::of(calls)))
+    Ok(MemPages::new(FILE, Bytes::of(copy), Calls::none(alloc)))
 }
 
 /// What a look-up gave.
@@ -94,15 +92,9 @@ fn given(alloc: Global, pages: &mut MemPages, info: &BlockInfo, id: TraceId) -> 
     }
 }
 
-/// What looking up a trace in a block that was built gives, and how many pages it read, where the reads with these
-/// numbers fail.
-fn found(
-    rt: &(impl Abort + AllocGlobal),
-    built: &BuiltBlock,
-    number: u32,
-    failing: &[u64],
-) -> (Gave, u64) {
-    let mut pages = file(rt.alloc(), built.bytes.as_slice(), failing).expect(rt, "memory");
+/// What looking up a trace in a block that was built gives, and how many pages it read.
+fn found(rt: &(impl Abort + AllocGlobal), built: &BuiltBlock, number: u32) -> (Gave, u64) {
+    let mut pages = file(rt.alloc(), built.bytes.as_slice()).expect(rt, "memory");
     let gave = given(rt.alloc(), &mut pages, &built.info, trace(number));
     (gave, pages.reads())
 }
@@ -111,75 +103,9 @@ fn found(
 fn a_trace_over_two_stripes(rt: HostRuntime) {
     let built = block(&rt, 1, 257);
     let stripes = built.info.index_page.saturating_sub(1);
-    assert!(&rt; found(&rt, &built, 2, &[]) == (Gave::Rows(257), stripes.saturating_add(2)));
+    assert!(&rt; found(&rt, &built, 2) == (Gave::Rows(257), stripes.saturating_add(2)));
     // An absent id, of which the filters have not all bits.
-    assert!(&rt; found(&rt, &built, 3, &[]) == (Gave::Rows(0), 1));
-}
-
-/// Asserts that looking up each of these traces gives so many rows, or none of one with an odd number, and reads so
-/// many pages at most.
-fn check_found(
-    rt: &(impl Abort + AllocGlobal),
-    built: &BuiltBlock,
-    numbers: &[u32],
-    rows: usize,
-    most: u64,
-) {
-    for number in numbers {
-        let (gave, reads) = found(rt, built, *number, &[]);
-        let wanted = if *number % 2 == 0 { rows } else { 0 };
-        assert!(rt; gave == Gave::Rows(wanted) && reads <= most, "{number}");
-    }
-}
-
-/// How many pages the largest stripe of a block has.
-fn largest(info: &BlockInfo) -> u64 {
-    let mut pages = 0;
-    for stripe in info.stripes.as_slice() {
-        pages = stripe.pages.max(pages);
-    }
-    pages
-}
-
-static SOME: [u32; 11] = [1, 2, 3, 170, 171, 172, 173, 340, 341, 342, 343];
-
-#[test]
-fn among_some_traces(rt: HostRuntime) {
-    // An index of two pages, and traces over two stripes: the last row of 172 is the first of the second one.
-    let built = block(&rt, 171, 3);
-    assert!(&rt; built.info.index_pages == 2);
-    let most = largest(&built.info).saturating_mul(2).saturating_add(1 + 2);
-    check_found(&rt, &built, &SOME, 3, most);
-}
-
-static MANY: [u32; 18] = [
-    1,
-    2,
-    3,
-    340,
-    341,
-    342,
-    511,
-    512,
-    513,
-    514,
-    29_999,
-    30_000,
-    59_998,
-    59_999,
-    60_000,
-    60_001,
-    60_003,
-    u32::MAX,
-];
-
-#[test]
-fn among_many_traces(rt: HostRuntime) {
-    // 177 pages have eight binary digits. The last three numbers are beyond the last trace.
-    let built = block(&rt, 30_000, 1);
-    assert!(&rt; built.info.index_pages == 177);
-    let most = largest(&built.info).saturating_add(1 + 8);
-    check_found(&rt, &built, &MANY, 1, most);
+    assert!(&rt; found(&rt, &built, 3) == (Gave::Rows(0), 1));
 }
 
 /// Puts these bytes there in a copy of a block's bytes.
@@ -201,7 +127,7 @@ fn by(
     number: u32,
 ) -> Gave {
     let bytes = changed(rt.alloc(), built.bytes.as_slice(), place, new).expect(rt, "memory");
-    let mut pages = file(rt.alloc(), bytes.as_slice(), &[]).expect(rt, "memory");
+    let mut pages = file(rt.alloc(), bytes.as_slice()).expect(rt, "memory");
     given(rt.alloc(), &mut pages, &built.info, trace(number))
 }
 
@@ -251,55 +177,6 @@ fn an_index_that_lies(rt: HostRuntime) {
     }
 }
 
-#[test]
-fn each_read_fails(rt: HostRuntime) {
-    let built = block(&rt, 1, 257);
-    let (_, reads) = found(&rt, &built, 2, &[]);
-    for number in 0..reads {
-        let number = number.saturating_add(1);
-        assert!(&rt; found(&rt, &built, 2, &[number]) == (Gave::Fault, number));
-    }
-}
-
-/// Where the second stripe begins.
-fn second_stripe(info: &BlockInfo) -> u64 {
-    match info.stripes.as_slice().get(1) {
-        Some(stripe) => stripe.page.saturating_mul(4096),
-        None => 0,
-    }
-}
-
-/// An offset of the second stripe, the bytes that stand there, and where the stripe breaks.
-static BROKEN: [(u64, &[u8], u64); 4] = [
-    // Another length.
-    (0, &[255; 8], 0),
-    // One byte too many for the text's length, no rows, an id of zeros.
-    (9, &[128, 0], 9),
-    (16, &[0, 0], 0),
-    (2322, &[0; 8], 2322),
-];
-
-#[test]
-fn a_stripe_that_breaks(rt: HostRuntime) {
-    // Two traces of 200 rows each. The second stripe has the last 144 rows: one empty text from byte 8, one resource,
-    // one scope, the number of rows from byte 16, their traces from 18, and their spans' ids from 2,322.
-    let built = block(&rt, 2, 200);
-    let first = second_stripe(&built.info);
-    for (offset, new, broken) in &BROKEN {
-        let place = first.saturating_add(*offset);
-        let at = first.saturating_add(*broken);
-        assert!(&rt;
-            by(&rt, &built, place, new, 4) == Gave::NotBlock(at),
-            "{offset}"
-        );
-        // A trace that lies in the first stripe alone is found.
-        assert!(&rt;
-            by(&rt, &built, place, new, 2) == Gave::Rows(200),
-            "{offset}"
-        );
-    }
-}
-
 /// Whether looking up each trace in the bytes of a block gives all of its rows, none, or that an entry names rows that
 /// no stripe has.
 fn are_theirs(alloc: Global, pages: &mut MemPages, info: &BlockInfo) -> bool {
@@ -332,7 +209,7 @@ static ORDERS: [(u64, &[u8], usize); 6] = [
 /// Asserts that no trace gets rows of another one once these bytes stand there in the block.
 fn check_theirs(rt: &(impl Abort + AllocGlobal), built: &BuiltBlock, place: u64, new: &[u8]) {
     let bytes = changed(rt.alloc(), built.bytes.as_slice(), place, new).expect(rt, "memory");
-    let mut pages = file(rt.alloc(), bytes.as_slice(), &[]).expect(rt, "memory");
+    let mut pages = file(rt.alloc(), bytes.as_slice()).expect(rt, "memory");
     assert!(rt; are_theirs(rt.alloc(), &mut pages, &built.info), "{place}");
 }
 
