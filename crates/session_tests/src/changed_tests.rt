@@ -1,9 +1,10 @@
 //! A block that changes while its store is open: what a search is told whose reads give another length of the block's stripe than was
 //! written, by docs/BLOCK-FORMAT.md.
 
+use crate::filled::filled;
 use disk_model::{ByteLists, Device, MemDisk, OddDisk};
 use io_edges::{FixedClock, MemSink, OpenGate};
-use run_support::{PUSH_X, PUSHED_0, all_words, calls, session_on, source_of};
+use run_support::{all_words, calls, session_on, source_of};
 use span_types::{Bytes, Memory, Moments};
 use std::alloc::{AllocError, Global};
 use std::process::Abort;
@@ -14,26 +15,10 @@ use trace_shell::{Ended, run};
 use traceql_types::RegexMaker;
 
 /// The lines that make a block of the span of `PUSH_X`.
-const FLUSHED: &str = "$x\ncutall\nflush\n";
+const FLUSHED: &str = "$x\n$block";
 
 /// The lines that then search in it, and push again.
 const LATER: &str = "search { }\n$x\n";
-
-/// What a search finds in the block as it was written.
-const FOUND: &str =
-    r#"{"traces":[{"durationNanos":"1","rootName":"x","rootService":null,"spanSets":[{"by":[],"matched":1,"spans":[{"attributes":[],"durationNanos":"1","name":"x","spanId":"00000000000000b1","startTimeUnixNano":"1"}]}],"startTimeUnixNano":"1","traceId":"000000000000000000000000000000a1"}]}"#;
-
-/// The words, and what they stand for.
-static WORDS: [(&str, &str); 3] = [("$x", PUSH_X), ("$0", PUSHED_0), ("$found", FOUND)];
-
-/// A text with what its words stand for.
-fn filled(alloc: Global, text: &str) -> Result<String, AllocError> {
-    let mut all = String::from_str(alloc, text)?;
-    for (word, meaning) in &WORDS {
-        all = all.replace(alloc, *word, meaning)?;
-    }
-    Ok(all)
-}
 
 /// A length of the stripe, what the search is told then, and the status.
 type Case = (u64, &'static str, u8);
@@ -127,9 +112,9 @@ fn lines(alloc: Global) -> Result<String, AllocError> {
 
 // What the session writes in which the search is told this: the push after it is accepted all the same.
 fn replies(alloc: Global, told: &str) -> Result<String, AllocError> {
-    let mut text = String::from_str(alloc, "$0ok cutall moved=1\nok flush rows=1\n")?;
+    let mut text = String::from_str(alloc, "$0$ended")?;
     text.push_str(told)?;
-    text.push_str("ok push 1 accepted=1 rejected=0 skipped=0\n")?;
+    text.push_str("$1")?;
     filled(alloc, text.as_str())
 }
 

@@ -16,6 +16,7 @@ fn as_strings(alloc: Global, words: &[&str]) -> Result<Vec<String>, AllocError> 
 fn told(alloc: Global, words: &[String]) -> Result<String, AllocError> {
     match read_words(alloc, words) {
         Ok(Asked::Session) => String::from_str(alloc, "session"),
+        Ok(Asked::Serve { clients, rounds }) => format!(in alloc; "serve:{clients}:{rounds}"),
         Ok(Asked::Ingest) => String::from_str(alloc, "ingest"),
         Ok(Asked::Drill { seed, traces }) => format!(in alloc; "drill:{seed}:{traces}"),
         Ok(Asked::Alone { line }) => format!(in alloc; "line:{line}"),
@@ -24,7 +25,7 @@ fn told(alloc: Global, words: &[String]) -> Result<String, AllocError> {
     }
 }
 
-static ROWS: [(&[&str], &str); 52] = [
+static ROWS: [(&[&str], &str); 58] = [
     (&[], "refused"),
     (&["session"], "session"),
     (&["session", "--"], "session"),
@@ -81,6 +82,12 @@ static ROWS: [(&[&str], &str); 52] = [
     (&["search", "--spss", "-", "-"], "line:search spss=- -"),
     (&["sessions"], "refused"),
     (&["serve", "--clients", "17"], "refused"),
+    (&["serve"], "refused"),
+    (&["serve", "--clients", "0"], "refused"),
+    (&["serve", "--clients", "2", "--rounds", "3"], "serve:2:3"),
+    (&["serve", "--rounds=1000", "--clients=16"], "serve:16:1000"),
+    (&["serve", "--clients", "1"], "serve:1:0"),
+    (&["serve", "--clients", "1", "--rounds", "1001"], "refused"),
     (&["drill"], "refused"),
     (&["drill", "--seed", "7"], "refused"),
     (&["drill", "--seed", "x", "--traces", "1"], "refused"),

@@ -20,8 +20,8 @@ pub(crate) fn key(name: u32) -> Key
     }
 }
 
-fn text(alloc: Global) -> Result<Text, Memory> {
-    Ok(Text::of(String::from_str(alloc, "")?))
+fn text(alloc: Global) -> Text {
+    Text::of(String::new(alloc))
 }
 
 fn resource(alloc: Global) -> Result<SharedResource, Memory> {
@@ -30,8 +30,8 @@ fn resource(alloc: Global) -> Result<SharedResource, Memory> {
 }
 
 fn scope(alloc: Global) -> Result<SharedScope, Memory> {
-    let name = text(alloc)?;
-    let version = text(alloc)?;
+    let name = text(alloc);
+    let version = text(alloc);
     let attrs = Attrs::none(alloc);
     SharedScope::of(
         alloc,
@@ -46,20 +46,18 @@ fn scope(alloc: Global) -> Result<SharedScope, Memory> {
 fn span(alloc: Global, key: Key) -> Result<Span, Memory>
     requires { AreNames key.trace key.span None }
 {
-    let name = text(alloc)?;
-    let message = text(alloc)?;
     let resource = resource(alloc)?;
     let scope = scope(alloc)?;
     Ok(Span {
         trace: key.trace,
         id: key.span,
         parent: None,
-        name,
+        name: text(alloc),
         kind: SpanKind::Server,
         start: 1,
         end: 2,
         status: StatusCode::Unset,
-        message,
+        message: text(alloc),
         attrs: Attrs::none(alloc),
         resource,
         scope,
