@@ -6,9 +6,9 @@ use Rattle.span_types.specs.declared.ids.TraceId.{TraceId}
 use Rattle.span_types.specs.declared.spans.Row.{Row}
 use Rattle.block_info.specs.declared.info.StripeInfo.{StripeInfo}
 use Rattle.block_info.specs.InfoParts.{InfoParts}
-use Rattle.block_index.specs.Index.{index_bytes}
-use Rattle.block_rows.specs.declared.tail.Tail.{Tail}
-use Rattle.block_rows.specs.Tails.{IsTailOf}
+use Rattle.block_format.specs.Index.{index_bytes}
+use Rattle.block_format.specs.declared.tail.Tail.{Tail}
+use Rattle.block_format.specs.Tails.{IsTailOf}
 use Rattle.block_format.specs.declared.header.Header.{Header}
 use Rattle.block_format.specs.Blocks.{BlockHasHeader, BlockHasInfo, StripesHaveEntries, form_of_rows, ids_of, info_of}
 use Rattle.block_format.specs.Headers.{AreFromPage, CanBeHeader, HasRows, HeaderHolds, IsAtPage, header_pages}

@@ -4,7 +4,7 @@ use Rattle.std.specs.Int.{div_ceil}
 use Rattle.std.specs.List.{AllByRecursion, list_all}
 use Rattle.span_types.specs.declared.spans.Row.{Row}
 use Rattle.block_info.specs.declared.info.StripeInfo.{StripeInfo}
-use Rattle.block_rows.specs.declared.tail.Tail.{Tail}
+use Rattle.block_format.specs.declared.tail.Tail.{Tail}
 use Rattle.block_format.specs.declared.header.Header.{Header}
 use Rattle.block_format.specs.Blocks.{StripeHasEntry, StripesHaveEntries}
 use Rattle.block_format.specs.Headers.{AreFromPage, HasMoments, header_pages}

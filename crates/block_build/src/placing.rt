@@ -11,9 +11,8 @@ ghost use Rattle.block_build.specs.Places.{placed};
 
 use crate::building::BuiltBlock;
 use crate::draft::header_pages;
-use block_format::{Header, header_is_pages, write_header};
+use block_format::{Header, header_is_pages, info_of, tail_of, write_header};
 use block_info::{StripeInfo, Stripes};
-use block_rows::{info_of, tail_of};
 use span_types::{Bytes, Ids, Memory, TraceId};
 use std::alloc::Global;
 

@@ -4,8 +4,8 @@ use Rattle.std.specs.List.{AllByRecursion}
 use Rattle.std.proofs.lemmas.List.{append-nil, length-append, length-take-le}
 use Rattle.byte_fields.specs.Reading.{Stand, left, ahead, IsWithin, ◌>>=◌}
 use Rattle.byte_fields.proofs.FieldLaws.{left-ahead}
-use Rattle.span_fields.specs.Laws.{EncodedIsRead}
-use Rattle.span_fields.proofs.Again.{within_ahead}
+use Rattle.byte_fields.specs.Laws.{EncodedIsRead}
+use Rattle.byte_fields.proofs.Again.{within_ahead}
 use Rattle.block_columns.specs.Tables.{AllAfter}
 use Rattle.block_columns.specs.ColumnReadings.{Spot, Read, at_spot, field, pair_at, made_at, items_at, column_at, beside, both_at}
 use Rattle.block_columns.specs.ColumnEncodings.{Encoded, Encoding, plain, followed, pair, column, both}

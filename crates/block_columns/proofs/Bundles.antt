@@ -5,9 +5,9 @@ use Rattle.std.specs.List.{slice_get, list_any, AllByRecursion}
 use Rattle.std.proofs.lemmas.List.{length-map}
 use Rattle.byte_fields.specs.Spelling.{var_bytes}
 use Rattle.byte_fields.specs.Reading.{Stand, left, ◌>>=◌}
-use Rattle.span_fields.specs.Laws.{EncodedIsRead, ReadIsEncoded}
-use Rattle.span_fields.specs.Sound.{IsBelow64}
-use Rattle.span_fields.proofs.Meant.{Bound, bound, kept_else}
+use Rattle.byte_fields.specs.Laws.{EncodedIsRead, ReadIsEncoded}
+use Rattle.byte_fields.specs.Sound.{IsBelow64}
+use Rattle.byte_fields.proofs.Meant.{Bound, bound, kept_else}
 use Rattle.block_columns.specs.Tables.{AllAfter, IsNew}
 use Rattle.block_columns.specs.ColumnReadings.{Spot, Read, field, number_at, reference_at, pair_at, made_at, items_at, counted_at, column_at, both_at, unless_at, new_at, only_if_at, table_at, owners_at}
 use Rattle.block_columns.specs.ColumnEncodings.{Encoded, Encoding, plain, reference, followed, pair, column, counted, both, only_if, owners}

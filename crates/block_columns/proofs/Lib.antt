@@ -10,3 +10,7 @@ pub mod WritingSteps
 pub mod Seams
 pub mod Tabled
 pub mod Guesses
+pub mod PartLaws
+pub mod PartSteps
+pub mod Promised
+pub mod KeyLemmas

@@ -3,8 +3,8 @@ use Rattle.std.proofs.Common.{◌≡◌, ℕ, zero, suc, ◌+◌, ◌^◌, ◌<�
 use Rattle.std.specs.List.{AllByRecursion}
 use Rattle.std.proofs.lemmas.List.{append-nil}
 use Rattle.byte_fields.specs.Reading.{Stand, ◌>>=◌}
-use Rattle.span_fields.specs.Laws.{Took, Got, ReadIsEncoded}
-use Rattle.span_fields.proofs.Meant.{Bound, bound, took_none, took_then}
+use Rattle.byte_fields.specs.Laws.{Took, Got, ReadIsEncoded}
+use Rattle.byte_fields.proofs.Meant.{Bound, bound, took_none, took_then}
 use Rattle.block_columns.specs.Tables.{AllAfter}
 use Rattle.block_columns.specs.ColumnReadings.{Spot, Read, at_spot, field, pair_at, made_at, items_at, column_at, beside, both_at}
 use Rattle.block_columns.specs.ColumnEncodings.{Encoded, Encoding, plain, followed, pair, column, both}

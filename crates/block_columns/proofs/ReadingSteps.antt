@@ -4,10 +4,10 @@ use Rattle.std.specs.List.{slice_get, list_any}
 use Rattle.std.proofs.lemmas.Bool.{le-leb, lt-leb}
 use Rattle.std.proofs.lemmas.List.{append-nil}
 use Rattle.byte_fields.specs.Reading.{Stand, ◌>>=◌}
-use Rattle.span_fields.specs.declared.breaks.Break.{Break}
-use Rattle.span_fields.specs.declared.breaks.Break.TheVariants as breaks
-use Rattle.span_fields.specs.Breaks.{Fails, Gives}
-use Rattle.span_fields.proofs.Meant.{Bound, bound}
+use Rattle.byte_fields.specs.declared.breaks.Break.{Break}
+use Rattle.byte_fields.specs.declared.breaks.Break.TheVariants as breaks
+use Rattle.byte_fields.specs.Breaks.{Fails, Gives}
+use Rattle.byte_fields.proofs.Meant.{Bound, bound}
 use Rattle.block_columns.specs.Tables.{AllAfter}
 use Rattle.block_columns.specs.ColumnReadings.{Spot, Read, at_spot, malformed, field, number_at, reference_at, items_at, unless_at, new_at}
 use Rattle.block_columns.specs.ColumnLaws.{read_to}

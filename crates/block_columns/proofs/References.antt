@@ -7,10 +7,10 @@ use Rattle.std.proofs.lemmas.Option.{slice_get_within, get_or_from_slice_get}
 use Rattle.std.proofs.lemmas.Bool.{le-leb, leb-true, ltb-true, ltb-false, eqb-true, eq-eqb}
 use Rattle.byte_fields.specs.Spelling.{var_bytes}
 use Rattle.byte_fields.specs.Reading.{Stand, left, ahead, ◌>>=◌, var_at}
-use Rattle.span_fields.specs.Laws.{Took}
-use Rattle.span_fields.specs.Sound.{IsBelow64}
-use Rattle.span_fields.proofs.Again.{again_var}
-use Rattle.span_fields.proofs.Meant.{Bound, bound, meant_var}
+use Rattle.byte_fields.specs.Laws.{Took}
+use Rattle.byte_fields.specs.Sound.{IsBelow64}
+use Rattle.byte_fields.proofs.Again.{again_var}
+use Rattle.byte_fields.proofs.Meant.{Bound, bound, meant_var}
 use Rattle.block_columns.specs.Tables.{number_in, with_value}
 use Rattle.block_columns.specs.ColumnReadings.{Spot, Read, number_at, or_malformed, named, reference_at, column_at, item_at, malformed, all_used, owners_at}
 use Rattle.block_columns.specs.ColumnEncodings.{Encoding, plain, reference, column, numbered, first_uses, owners}

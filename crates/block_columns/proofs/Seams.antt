@@ -3,7 +3,7 @@ use Rattle.std.proofs.Common.{◌≡◌, ℕ, suc, Bool, List, [], ◌∷◌, �
 use Rattle.std.specs.List.{AllByRecursion}
 use Rattle.std.proofs.lemmas.List.{append-nil, length-map}
 use Rattle.byte_fields.specs.Reading.{◌>>=◌}
-use Rattle.span_fields.proofs.Meant.{Bound, bound}
+use Rattle.byte_fields.proofs.Meant.{Bound, bound}
 use Rattle.block_columns.specs.ColumnReadings.{Spot, Read, beside, both_at, column_at}
 use Rattle.block_columns.specs.ColumnEncodings.{Encoded, Encoding, both, column, columns, first_uses, followed}
 use Rattle.block_columns.specs.ColumnLaws.{read_to, IsBoth, IsColumn}

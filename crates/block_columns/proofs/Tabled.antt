@@ -5,7 +5,7 @@ use Rattle.std.specs.List.{slice_get, AllByRecursion}
 use Rattle.std.proofs.lemmas.List.{length-map}
 use Rattle.byte_fields.specs.Spelling.{var_bytes}
 use Rattle.byte_fields.specs.Reading.{◌>>=◌}
-use Rattle.span_fields.proofs.Meant.{Bound, bound}
+use Rattle.byte_fields.proofs.Meant.{Bound, bound}
 use Rattle.block_columns.specs.Tables.{AllAfter, IsNew, number_in, with_value}
 use Rattle.block_columns.specs.ColumnReadings.{Spot, Read, reference_at, table_at}
 use Rattle.block_columns.specs.ColumnEncodings.{Encoded, Encoding, column, counted, first_uses, followed, numbered, plain, reference}

@@ -3,7 +3,7 @@ use Rattle.std.proofs.Common.{◌≡◌, ◌^◌, ℕ, suc, ◌+◌, Bool, true,
 use Rattle.std.specs.List.{position_or_len, list_any, AllByRecursion}
 use Rattle.std.proofs.lemmas.List.{map-append, append-nil, length-map, take_more}
 use Rattle.byte_fields.specs.Spelling.{var_bytes}
-use Rattle.span_fields.specs.Sound.{AreSound}
+use Rattle.byte_fields.specs.Sound.{AreSound}
 use Rattle.block_columns.specs.ColumnEncodings.{Encoded, Encoding, plain, reference, column, columns, counted, wrote}
 use Rattle.block_columns.proofs.Numbering.{position_step}
 

@@ -2,7 +2,7 @@
 use Rattle.std.specs.Prelude.{◌≡◌, ℕ, ◌+◌, ◌≤◌, Bool, true, false, List, [], ◌∷◌, ◌++◌, length, map, take, Result, Ok}
 use Rattle.std.specs.List.{AllByRecursion}
 use Rattle.byte_fields.specs.Reading.{Stand, left, ahead, IsWithin}
-use Rattle.span_fields.specs.Laws.{Took}
+use Rattle.byte_fields.specs.Laws.{Took}
 use Rattle.block_columns.specs.Tables.{AllAfter, IsNew}
 use Rattle.block_columns.specs.ColumnEncodings.{Encoded, Encoding}
 use Rattle.block_columns.specs.ColumnReadings.{Spot, Read}

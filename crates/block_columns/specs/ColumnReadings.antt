@@ -2,7 +2,7 @@
 use Rattle.std.specs.Prelude.{ℕ, zero, suc, ◌+◌, max, Bool, List, [], ◌∷◌, ◌++◌, length, Option, Some, None, Result, Ok, Err, ◌==◌, nat_le, slice_get, if◌then◌else◌}
 use Rattle.std.specs.List.{list_any}
 use Rattle.byte_fields.specs.Reading.{Stand, ◌>>=◌, var_at}
-use Rattle.span_fields.specs.Breaks.{in_part}
+use Rattle.byte_fields.specs.Breaks.{in_part}
 
 -- The bytes and the offset of the next one, whether the file goes on after them, and how many values of the table were
 -- referred to.

@@ -3,3 +3,7 @@ pub mod ColumnEncodings
 pub mod ColumnReadings
 pub mod ColumnLaws
 pub mod Outcomes
+pub mod PartEncodings
+pub mod PartReadings
+pub mod PartsKept
+pub mod TextKeys

@@ -1,7 +1,7 @@
 -- For private clauses: what a call answers.
 use Rattle.std.specs.Prelude.{◌≡◌, ℕ, Result, Ok, Err}
-use Rattle.span_fields.specs.declared.breaks.Break.{Break}
-use Rattle.span_fields.specs.Breaks.{Fails}
+use Rattle.byte_fields.specs.declared.breaks.Break.{Break}
+use Rattle.byte_fields.specs.Breaks.{Fails}
 
 -- What a call gave, seen by view, and where the reader then stands are what reading gives; or it fails so.
 abbrev pub Finds : {X Y S : Type 0} → (X → Y) → Result X Break → S → Result (Y × S) ℕ → Type 0

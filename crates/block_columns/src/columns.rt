@@ -5,7 +5,7 @@ ghost use Rattle.block_columns.specs.ColumnReadings.{Spot, beside, both_at, colu
 ghost use Rattle.block_columns.specs.Outcomes.{Finds};
 
 use crate::Fields;
-use span_fields::Break;
+use byte_fields::Break;
 use span_types::Memory;
 use std::alloc::Global;
 

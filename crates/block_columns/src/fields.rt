@@ -3,13 +3,12 @@
 ghost use Rattle.std.specs.Prelude.{◌≡◌, ◌<◌, ◌^◌, ◌+◌, max, false, length, IfOk, IfSome};
 ghost use Rattle.byte_fields.specs.Reading.{byte_at, fixed64_at, text_at, zigzag_at};
 ghost use Rattle.span_types.specs.Promises.{all_zero};
-ghost use Rattle.span_fields.specs.Breaks.{in_part};
-ghost use Rattle.span_fields.specs.Decodings.{kind_at, parent_at, span_id_at, status_at, trace_id_at, value_at};
+ghost use Rattle.byte_fields.specs.Breaks.{in_part};
+ghost use Rattle.byte_fields.specs.SpanDecodings.{kind_at, parent_at, span_id_at, status_at, trace_id_at, value_at};
 ghost use Rattle.block_columns.specs.ColumnReadings.{field, number_at, reference_at};
 ghost use Rattle.block_columns.specs.Outcomes.{Finds};
 
-use byte_fields::Reader;
-use span_fields::Break;
+use byte_fields::{Break, Reader};
 use span_types::{AttrValue, SpanId, SpanKind, StatusCode, Text, TraceId};
 use std::marker::Model;
 
@@ -78,7 +77,7 @@ impl<'a> Fields<'a> {
     pub fn number(&mut self) -> Result<u64, Break>
         ensures { Finds (λ x. x) result self.new (number_at self.old) }
     {
-        span_fields::var(&mut self.reader, self.within)
+        byte_fields::var(&mut self.reader, self.within)
     }
 
     /// A byte.
@@ -87,7 +86,7 @@ impl<'a> Fields<'a> {
         ensures { Finds (λ x. x) result self.new
             (field (λ within. in_part within byte_at) self.old) }
     {
-        span_fields::byte(&mut self.reader, self.within)
+        byte_fields::byte(&mut self.reader, self.within)
     }
 
     /// A moment.
@@ -96,7 +95,7 @@ impl<'a> Fields<'a> {
         ensures { Finds (λ x. x) result self.new
             (field (λ within. in_part within fixed64_at) self.old) }
     {
-        span_fields::fixed64(&mut self.reader, self.within)
+        byte_fields::fixed64(&mut self.reader, self.within)
     }
 
     /// A text in full.
@@ -105,7 +104,7 @@ impl<'a> Fields<'a> {
         ensures { Finds (λ x. x) result self.new
             (field (λ within. in_part within text_at) self.old) }
     {
-        span_fields::text(&mut self.reader, self.within)
+        byte_fields::text(&mut self.reader, self.within)
     }
 
     /// A trace's id.
@@ -114,7 +113,7 @@ impl<'a> Fields<'a> {
         ensures finds { Finds (λ x. x) result self.new (field trace_id_at self.old) }
         ensures some { IfOk result (λ id. all_zero id.0 ≡ false) }
     {
-        span_fields::trace_id(&mut self.reader, self.within)
+        byte_fields::trace_id(&mut self.reader, self.within)
     }
 
     /// A span's id.
@@ -123,7 +122,7 @@ impl<'a> Fields<'a> {
         ensures finds { Finds (λ x. x) result self.new (field span_id_at self.old) }
         ensures some { IfOk result (λ id. all_zero id.0 ≡ false) }
     {
-        span_fields::span_id(&mut self.reader, self.within)
+        byte_fields::span_id(&mut self.reader, self.within)
     }
 
     /// A span's parent, where it has one.
@@ -132,7 +131,7 @@ impl<'a> Fields<'a> {
         ensures finds { Finds (λ x. x) result self.new (field parent_at self.old) }
         ensures some { IfOk result (λ parent. IfSome parent (λ id. all_zero id.0 ≡ false)) }
     {
-        span_fields::parent(&mut self.reader, self.within)
+        byte_fields::parent(&mut self.reader, self.within)
     }
 
     /// A span's kind.
@@ -140,7 +139,7 @@ impl<'a> Fields<'a> {
     pub fn kind(&mut self) -> Result<SpanKind, Break>
         ensures { Finds (λ x. x) result self.new (field kind_at self.old) }
     {
-        span_fields::kind(&mut self.reader, self.within)
+        byte_fields::kind(&mut self.reader, self.within)
     }
 
     /// An attribute's value in full.
@@ -148,7 +147,7 @@ impl<'a> Fields<'a> {
     pub fn value(&mut self) -> Result<AttrValue, Break>
         ensures { Finds (λ x. x) result self.new (field value_at self.old) }
     {
-        span_fields::value(&mut self.reader, self.within)
+        byte_fields::value(&mut self.reader, self.within)
     }
 
     /// How a span ended.
@@ -156,7 +155,7 @@ impl<'a> Fields<'a> {
     pub fn status(&mut self) -> Result<StatusCode, Break>
         ensures { Finds (λ x. x) result self.new (field status_at self.old) }
     {
-        span_fields::status(&mut self.reader, self.within)
+        byte_fields::status(&mut self.reader, self.within)
     }
 
     /// Counts a reference to the value of this number.

@@ -3,7 +3,7 @@
 ghost use Rattle.std.specs.Prelude.{◌≡◌, ◌++◌, [], ℕ, All, List, OnOk, IfOk, length, map, true};
 ghost use Rattle.indexmap.specs.IndexSet.{contains, insert_index, insert_key};
 ghost use Rattle.byte_fields.specs.Spelling.{fixed64_bytes, text_bytes, var_bytes, zigzag_bytes};
-ghost use Rattle.span_fields.specs.Sound.{AreSound};
+ghost use Rattle.byte_fields.specs.Sound.{AreSound};
 ghost use Rattle.block_columns.specs.ColumnEncodings.{Encoding, column, counted, plain, reference, wrote};
 
 use byte_fields::Writer;

@@ -3,12 +3,12 @@
 ghost use Rattle.std.specs.Prelude.{◌≡◌, ℕ, []};
 ghost use Rattle.block_columns.specs.ColumnReadings.{items_at, item_at, malformed, new_at, owners_at, reference_at, table_at};
 ghost use Rattle.block_columns.specs.Outcomes.{Finds, Tells};
-ghost use Rattle.span_fields.specs.Breaks.{Fails};
+ghost use Rattle.byte_fields.specs.Breaks.{Fails};
 
 use crate::Fields;
 use crate::columns::{Columns, Kind, column};
+use byte_fields::Break;
 use indexmap::IndexSet;
-use span_fields::Break;
 use span_types::TryCopy;
 use std::alloc::Global;
 use std::hash::Hash;

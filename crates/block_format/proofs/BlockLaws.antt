@@ -4,8 +4,8 @@ use Rattle.std.proofs.lemmas.List.{length-append, length-take, take-append-drop}
 use Rattle.span_types.specs.declared.spans.Row.{Row}
 use Rattle.block_info.specs.declared.info.StripeInfo.{StripeInfo}
 use Rattle.block_info.specs.InfoParts.{InfoParts}
-use Rattle.block_index.specs.Bloom.{bloom_bytes}
-use Rattle.block_index.specs.Index.{index_bytes, traces}
+use Rattle.block_format.specs.Bloom.{bloom_bytes}
+use Rattle.block_format.specs.Index.{index_bytes, traces}
 use Rattle.block_format.specs.declared.header.Header.{Header}
 use Rattle.block_format.specs.Blocks.{AreOfOneFile, BlockHasHeader, BlockHasInfo, BlockHolds, StripesHaveEntries, ids_of, info_of}
 use Rattle.block_stripes.specs.Stripes.{StripeHolds, is_extended}

@@ -7,12 +7,12 @@ use Rattle.byte_fields.specs.declared.error.FieldError.{FieldError}
 use Rattle.byte_fields.specs.Spelling.{fixed32_bytes, fixed64_bytes}
 use Rattle.byte_fields.specs.Reading.{Stand, AreBytes, IsWithin, left, ahead, ◌>>=◌, raw_at, fixed32_at}
 use Rattle.byte_fields.proofs.FieldLaws.{left_fits, raw_takes, fixed32_takes, fixed32_again}
-use Rattle.span_fields.specs.Breaks.{or_place, in_part}
-use Rattle.span_fields.specs.Decodings.{or_break}
-use Rattle.span_fields.specs.Laws.{Took, Got, EncodedIsRead, ReadIsEncoded, read_to}
-use Rattle.span_fields.specs.Sound.{IsBelow64}
-use Rattle.span_fields.proofs.Again.{again_fixed64, last, seq}
-use Rattle.span_fields.proofs.Meant.{bound, kept_then, meant_fixed64, or_break_ok, renamed, same_pair, step, took, took_then}
+use Rattle.byte_fields.specs.Breaks.{or_place, in_part}
+use Rattle.byte_fields.specs.SpanDecodings.{or_break}
+use Rattle.byte_fields.specs.Laws.{Took, Got, EncodedIsRead, ReadIsEncoded, read_to}
+use Rattle.byte_fields.specs.Sound.{IsBelow64}
+use Rattle.byte_fields.proofs.Again.{again_fixed64, last, seq}
+use Rattle.byte_fields.proofs.Meant.{bound, kept_then, meant_fixed64, or_break_ok, renamed, same_pair, step, took, took_then}
 use Rattle.block_info.specs.declared.info.StripeInfo.{StripeInfo}
 use Rattle.block_format.specs.declared.header_reading.Front.{Front}
 use Rattle.block_format.specs.Headers.{HasMoments, HasRows, IsAtPage, entry_bytes, form_bytes, header_pages}

@@ -4,9 +4,9 @@ use Rattle.std.specs.List.{AllByRecursion, flat_map}
 use Rattle.std.proofs.lemmas.List.{append-nil, drop_at, length-append, length-replicate, take_at}
 use Rattle.byte_fields.specs.Reading.{Stand, AreBytes, IsWithin, left, ahead, ◌>>=◌}
 use Rattle.byte_fields.proofs.FieldLaws.{left-ahead}
-use Rattle.span_fields.specs.Laws.{Took, read_to}
-use Rattle.span_fields.proofs.Again.{seq, within_ahead}
-use Rattle.span_fields.proofs.Meant.{bound, same_pair, step, took_none, took_then}
+use Rattle.byte_fields.specs.Laws.{Took, read_to}
+use Rattle.byte_fields.proofs.Again.{seq, within_ahead}
+use Rattle.byte_fields.proofs.Meant.{bound, same_pair, step, took_none, took_then}
 use Rattle.block_info.specs.declared.info.StripeInfo.{StripeInfo}
 use Rattle.block_format.specs.declared.header.Header.{Header}
 use Rattle.block_format.specs.declared.header_reading.Front.{Front}

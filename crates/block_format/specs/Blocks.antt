@@ -6,8 +6,8 @@ use Rattle.span_types.specs.declared.ids.TraceId.{TraceId}
 use Rattle.span_types.specs.declared.spans.Row.{Row}
 use Rattle.block_info.specs.declared.info.StripeInfo.{StripeInfo}
 use Rattle.block_info.specs.InfoParts.{InfoParts}
-use Rattle.block_index.specs.Bloom.{bloom_bytes, filter_pages}
-use Rattle.block_index.specs.Index.{entries, index_bytes, traces}
+use Rattle.block_format.specs.Bloom.{bloom_bytes, filter_pages}
+use Rattle.block_format.specs.Index.{entries, index_bytes, traces}
 use Rattle.block_format.specs.declared.header.Header.{Header}
 use Rattle.block_format.specs.Headers.{HeaderHolds}
 use Rattle.block_stripes.specs.StripeReadings.{ascend}

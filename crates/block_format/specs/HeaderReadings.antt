@@ -1,8 +1,8 @@
 -- Reading a header, with the first offset where the bytes are malformed.
 use Rattle.std.specs.Prelude.{ℕ, zero, suc, ◌+◌, Bool, false, ◌&&◌, Option, Some, None, List, [], ◌∷◌, ◌++◌, Result, Ok, Err, ◌==◌, nat_le, if◌then◌else◌}
 use Rattle.byte_fields.specs.Reading.{Stand, left, ◌>>=◌, fixed32_at, fixed64_at}
-use Rattle.span_fields.specs.Breaks.{in_part}
-use Rattle.span_fields.specs.Decodings.{or_break}
+use Rattle.byte_fields.specs.Breaks.{in_part}
+use Rattle.byte_fields.specs.SpanDecodings.{or_break}
 use Rattle.block_info.specs.declared.info.StripeInfo.{StripeInfo}
 use Rattle.block_format.specs.declared.header.Header.{Header}
 use Rattle.block_format.specs.declared.header_reading.Front.{Front}

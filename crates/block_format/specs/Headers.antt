@@ -3,7 +3,7 @@ use Rattle.std.specs.Prelude.{◌≡◌, ◌⊎◌, ℕ, ◌+◌, ◌*◌, ◌<�
 use Rattle.std.specs.Int.{div_ceil}
 use Rattle.std.specs.List.{AllByRecursion, flat_map}
 use Rattle.byte_fields.specs.Spelling.{fixed32_bytes, fixed64_bytes}
-use Rattle.span_fields.specs.Sound.{IsBelow64}
+use Rattle.byte_fields.specs.Sound.{IsBelow64}
 use Rattle.block_info.specs.declared.info.StripeInfo.{StripeInfo}
 use Rattle.block_stripes.specs.declared.error.FormatError.{FormatError}
 use Rattle.block_stripes.specs.declared.error.FormatError.TheVariants.{NotBlock, Memory}

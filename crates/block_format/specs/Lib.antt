@@ -1,3 +1,9 @@
+pub mod Hash
+pub mod Pages
+pub mod Index
+pub mod Bloom
+pub mod Found
 pub mod Headers
 pub mod HeaderReadings
 pub mod Blocks
+pub mod Tails

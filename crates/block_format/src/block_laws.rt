@@ -1,7 +1,7 @@
 //! Theorems about whole blocks: no bytes stand for two lists of rows, and one information describes them.
 //!
 //! Each function has an empty body: its contract is the statement, and its proof stands in `proofs/block_laws/`.
-//! Proofs of `compactor` and `stored_history` cite the lemmas. Only `compactor` calls one, `a_block_has_rows`, to have
+//! Proofs of `compactor` and `store_images` cite the lemmas. Only `compactor` calls one, `a_block_has_rows`, to have
 //! its contract.
 
 ghost use Rattle.std.specs.Prelude.{◌≡◌, ℕ, [], List};

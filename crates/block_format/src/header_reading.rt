@@ -2,15 +2,14 @@
 //! block begins with it.
 
 ghost use Rattle.std.specs.Prelude.{◌≡◌, ◌+◌, ◌^◌, ◌≤◌, [], IfOk, IsTrue, false};
-ghost use Rattle.span_fields.specs.Breaks.{Answers, Gives, break_of};
+ghost use Rattle.byte_fields.specs.Breaks.{Answers, Gives, break_of};
 ghost use Rattle.block_format.specs.Headers.{ReadsHeader, header_pages};
 ghost use Rattle.block_format.specs.HeaderReadings.{counts_at, entries_at, entry_at, form_at, has_rows, header_at, is_in_reach, number32_at, number64_at, passing, sizes_at};
 
 use crate::{FormatError, Header};
 use block_info::{StripeInfo, Stripes};
 use block_stripes::unfilled;
-use byte_fields::{FieldError, Reader};
-use span_fields::{Break, fixed64};
+use byte_fields::{Break, FieldError, Reader, fixed64};
 use std::alloc::Global;
 
 /// `TSB1`, as a number of four bytes, little-endian.
@@ -75,7 +74,7 @@ fn break_of(error: FieldError) -> Break
     }
 }
 
-#[tactic(auto, unfolding(crate::specs::HeaderReadings::number32_at, span_fields::specs::Breaks::in_part))]
+#[tactic(auto, unfolding(crate::specs::HeaderReadings::number32_at, byte_fields::specs::Breaks::in_part))]
 fn number32(reader: &mut Reader) -> Result<u32, Break>
     ensures gives { Gives (λ x. x) result reader.new (number32_at reader.old) }
     ensures whole { reader.new.whole ≡ reader.old.whole }

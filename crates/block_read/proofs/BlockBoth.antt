@@ -10,10 +10,10 @@ use Rattle.span_types.specs.declared.ids.TraceId.{TraceId}
 use Rattle.span_types.specs.declared.spans.Row.{Row}
 use Rattle.byte_fields.specs.Spelling.{fixed32_bytes}
 use Rattle.byte_fields.specs.Reading.{AreBytes, ◌>>=◌}
-use Rattle.span_fields.proofs.Meant.{bound}
+use Rattle.byte_fields.proofs.Meant.{bound}
 use Rattle.block_info.specs.declared.info.StripeInfo.{StripeInfo}
-use Rattle.block_index.specs.Bloom.{filter_pages}
-use Rattle.block_index.specs.Index.{entries, traces}
+use Rattle.block_format.specs.Bloom.{filter_pages}
+use Rattle.block_format.specs.Index.{entries, traces}
 use Rattle.block_format.specs.declared.header.Header.{Header}
 use Rattle.block_format.specs.Blocks.{BlockHasHeader, StripesHaveEntries, form_of_rows, ids_of, index_page_of}
 use Rattle.block_format.specs.HeaderReadings.{header_at}

@@ -7,13 +7,13 @@ use Rattle.span_types.specs.declared.ids.TraceId.{TraceId}
 use Rattle.span_types.specs.declared.spans.Row.{Row}
 use Rattle.block_info.specs.declared.info.StripeInfo.{StripeInfo}
 use Rattle.block_info.specs.InfoParts.{InfoParts}
-use Rattle.block_index.specs.Bloom.{bloom_bytes, filter_pages}
-use Rattle.block_index.specs.Index.{index_bytes, traces}
+use Rattle.block_format.specs.Bloom.{bloom_bytes, filter_pages}
+use Rattle.block_format.specs.Index.{index_bytes, traces}
 use Rattle.block_stripes.specs.Stripes.{IsKeptRow, is_extended}
 use Rattle.block_format.specs.declared.header.Header.{Header}
 use Rattle.block_format.specs.Blocks.{BlockHasHeader, BlockHasInfo, StripesHaveEntries, ids_of, index_page_of}
 use Rattle.block_format.proofs.HeaderLaws.{header_size}
-use Rattle.block_rows.proofs.IndexSizes.{IsLong, index_size}
+use Rattle.block_format.proofs.IndexSizes.{IsLong, index_size}
 use Rattle.block_read.specs.declared.block.Block.{Block}
 use Rattle.block_read.specs.Answers.{made_of}
 use Rattle.block_read.specs.BlockReadings.{block_at, info_read, listed_at}

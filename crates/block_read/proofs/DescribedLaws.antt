@@ -17,19 +17,19 @@ use Rattle.span_types.specs.declared.spans.Row.{Row}
 use Rattle.span_types.proofs.FirstLaws.{block_order_total}
 use Rattle.block_info.specs.InfoParts.{InfoParts}
 use Rattle.block_info.specs.declared.info.StripeInfo.{StripeInfo}
-use Rattle.block_index.specs.Bloom.{bloom_bytes, filter_pages}
-use Rattle.block_index.specs.Index.{AreAscending, AreIds, entries, index_bytes, traces}
-use Rattle.block_index.specs.Pages.{page_at}
+use Rattle.block_format.specs.Bloom.{bloom_bytes, filter_pages}
+use Rattle.block_format.specs.Index.{AreAscending, AreIds, entries, index_bytes, traces}
+use Rattle.block_format.specs.Pages.{page_at}
 use Rattle.block_format.specs.Blocks.{BlockHasHeader, BlockHasInfo, StripeHasEntry, StripesHaveEntries, ids_of, index_page_of}
 use Rattle.block_format.specs.Headers.{AreFromPage, HasRows}
 use Rattle.block_format.specs.declared.header.Header.{Header}
 use Rattle.block_format.proofs.HeaderLaws.{header_size}
-use Rattle.block_rows.proofs.IndexSizes.{IsLong, index_size}
+use Rattle.block_format.proofs.IndexSizes.{IsLong, index_size}
 use Rattle.block_stripes.specs.StripeReadings.{ascend, ascend_after}
 use Rattle.block_stripes.specs.Stripes.{IsKeptRow, is_extended}
 use Rattle.block_read.specs.Files.{page_of, part_of}
 use Rattle.block_read.proofs.BlockBoth.{body_size}
-use Rattle.block_index.proofs.PageLaws.{page_read}
+use Rattle.block_format.proofs.PageLaws.{page_read}
 use Rattle.block_read.specs.Lookups.{HasIndex}
 
 -- ---- ids

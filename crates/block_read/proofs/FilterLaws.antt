@@ -4,10 +4,10 @@ use Rattle.std.specs.List.{list_any}
 use Rattle.std.proofs.Math.Nat.{mod-lt}
 use Rattle.span_types.specs.declared.ids.TraceId.{TraceId}
 use Rattle.span_types.specs.declared.spans.Row.{Row}
-use Rattle.block_index.specs.Bloom.{HoldsTraces, bloom_bytes, filter_page_of, filter_pages, may_hold}
-use Rattle.block_index.specs.Hash.{fnv1a}
-use Rattle.block_index.specs.Index.{is_same, traces}
-use Rattle.block_index.specs.Pages.{page_at}
+use Rattle.block_format.specs.Bloom.{HoldsTraces, bloom_bytes, filter_page_of, filter_pages, may_hold}
+use Rattle.block_format.specs.Hash.{fnv1a}
+use Rattle.block_format.specs.Index.{is_same, traces}
+use Rattle.block_format.specs.Pages.{page_at}
 use Rattle.block_info.specs.InfoParts.{InfoParts}
 use Rattle.block_format.specs.Blocks.{BlockHasInfo, ids_of}
 use Rattle.block_read.specs.Files.{page_of}

@@ -15,8 +15,8 @@ use Rattle.span_types.specs.Orders.{trace_cmp}
 use Rattle.span_types.specs.declared.ids.TraceId.{TraceId}
 use Rattle.span_types.specs.declared.spans.Row.{Row}
 use Rattle.rows_by_trace.specs.Traces.{is_of_trace, rows_of_trace}
-use Rattle.stripe_traces.specs.Wanted.{AreInOrder, HasTraces, is_one_of, last_or, rows_of_traces}
-use Rattle.stripe_traces.specs.declared.traces.StripeTraces.{StripeTraces}
+use Rattle.stripe_skims.specs.Wanted.{AreInOrder, HasTraces, is_one_of, last_or, rows_of_traces}
+use Rattle.stripe_skims.specs.declared.traces.StripeTraces.{StripeTraces}
 use Rattle.block_read.specs.Lookups.{Finds, FindsTraces}
 use Rattle.block_read.specs.declared.error.ReadError.{ReadError}
 use Rattle.block_read.specs.declared.error.ReadError.TheVariants.{Fault, NotBlock, Memory}

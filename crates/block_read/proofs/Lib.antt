@@ -16,3 +16,8 @@ pub mod TraceWalk
 mod FilterLaws
 pub mod KeptRows
 mod SketchWalk
+mod BatchIds
+mod BatchWalks
+mod BatchStops
+mod CheckedBytes
+mod Taking

@@ -3,9 +3,9 @@ use Rattle.std.proofs.Common.{◌≡◌, ℕ, List, length, Result, Ok, Err, IfO
 use Rattle.std.proofs.lemmas.Bool.{eqb-true}
 use Rattle.byte_fields.specs.Reading.{AreBytes}
 use Rattle.span_types.specs.declared.spans.Row.{Row}
-use Rattle.span_fields.specs.Breaks.{Answers}
-use Rattle.span_fields.specs.declared.breaks.Break.{Break}
-use Rattle.span_fields.proofs.Meant.{bound}
+use Rattle.byte_fields.specs.Breaks.{Answers}
+use Rattle.byte_fields.specs.declared.breaks.Break.{Break}
+use Rattle.byte_fields.proofs.Meant.{bound}
 use Rattle.block_info.specs.InfoParts.{InfoParts}
 use Rattle.block_format.specs.Blocks.{BlockHasHeader, BlockHasInfo, info_of}
 use Rattle.block_read.specs.Answers.{made_of}

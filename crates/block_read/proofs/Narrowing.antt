@@ -4,12 +4,12 @@ use Rattle.std.proofs.lemmas.Bool.{cases_lt, eq-eqb, le-ltb, lt-ltb}
 use Rattle.std.specs.Prelude.{IsTrue, slice_get}
 use Rattle.std.specs.List.{count_by, list_any, position_or_len}
 use Rattle.span_types.specs.declared.ids.TraceId.{TraceId}
-use Rattle.block_index.specs.declared.entries.IndexEntry.{IndexEntry}
-use Rattle.block_index.specs.declared.search.Found.{Found}
-use Rattle.block_index.specs.declared.search.Found.TheVariants.{Here, Before, After, Absent}
-use Rattle.block_index.specs.Found.{PagesFind, found, said}
-use Rattle.block_index.specs.Index.{AreAscending, AreIds, TellsRows, entries, entries_on, index_bytes, is_same}
-use Rattle.block_index.specs.Pages.{page_at}
+use Rattle.block_format.specs.declared.index_entries.IndexEntry.{IndexEntry}
+use Rattle.block_format.specs.declared.index_search.Found.{Found}
+use Rattle.block_format.specs.declared.index_search.Found.TheVariants.{Here, Before, After, Absent}
+use Rattle.block_format.specs.Found.{PagesFind, found, said}
+use Rattle.block_format.specs.Index.{AreAscending, AreIds, TellsRows, entries, entries_on, index_bytes, is_same}
+use Rattle.block_format.specs.Pages.{page_at}
 use Rattle.block_info.specs.InfoParts.{InfoParts}
 use Rattle.block_read.specs.Answers.{RoseAtMost, StaysSame}
 use Rattle.block_read.specs.Files.{page_of}

@@ -6,7 +6,7 @@ use Rattle.std.proofs.lemmas.List.Elements.{All-cons, All-nil}
 use Rattle.span_types.specs.declared.ids.TraceId.{TraceId}
 use Rattle.span_types.specs.declared.spans.Row.{Row}
 use Rattle.byte_fields.specs.Reading.{Stand, fixed64_at}
-use Rattle.span_fields.specs.Breaks.{in_part}
+use Rattle.byte_fields.specs.Breaks.{in_part}
 use Rattle.block_info.specs.declared.info.StripeInfo.{StripeInfo}
 use Rattle.block_format.specs.Blocks.{form_of_rows, ids_of}
 use Rattle.block_stripes.specs.StripeReadings.{stripe_at}

@@ -8,9 +8,9 @@ use Rattle.std.proofs.lemmas.List.Sums.{sum_by-cons}
 use Rattle.span_types.specs.declared.spans.Row.{Row}
 use Rattle.byte_fields.specs.Spelling.{fixed64_bytes}
 use Rattle.byte_fields.specs.Reading.{Stand, AreBytes, ahead, ◌>>=◌, fixed64_at}
-use Rattle.span_fields.specs.Breaks.{in_part}
-use Rattle.span_fields.proofs.Again.{again_fixed64}
-use Rattle.span_fields.proofs.Meant.{bound}
+use Rattle.byte_fields.specs.Breaks.{in_part}
+use Rattle.byte_fields.proofs.Again.{again_fixed64}
+use Rattle.byte_fields.proofs.Meant.{bound}
 use Rattle.block_info.specs.declared.info.StripeInfo.{StripeInfo}
 use Rattle.block_format.specs.Blocks.{StripeHasEntry, StripesHaveEntries}
 use Rattle.block_format.specs.Headers.{AreFromPage}

@@ -14,7 +14,7 @@ use Rattle.span_types.specs.Orders.{trace_cmp}
 use Rattle.span_types.specs.declared.ids.TraceId.{TraceId}
 use Rattle.span_types.specs.declared.spans.Row.{Row}
 use Rattle.block_format.specs.Blocks.{ids_of}
-use Rattle.block_index.specs.Index.{AreAscending, is_same}
+use Rattle.block_format.specs.Index.{AreAscending, is_same}
 use Rattle.rows_by_trace.specs.Traces.{is_of_trace, rows_of_trace}
 
 pub total : IsTotalOrder trace_cmp

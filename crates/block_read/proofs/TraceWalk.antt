@@ -12,7 +12,7 @@ use Rattle.rows_by_trace.specs.Traces.{is_of_trace, rows_of_trace}
 use Rattle.block_info.specs.declared.info.StripeInfo.{StripeInfo}
 use Rattle.block_info.specs.InfoParts.{InfoParts}
 use Rattle.block_format.specs.Blocks.{StripeHasEntry, ids_of}
-use Rattle.block_index.specs.Index.{AreAscending, is_same}
+use Rattle.block_format.specs.Index.{AreAscending, is_same}
 use Rattle.block_read.specs.Answers.{is_fault}
 use Rattle.block_read.specs.BlockReadings.{stripe_of}
 use Rattle.block_read.specs.Files.{first_bytes, part_of}

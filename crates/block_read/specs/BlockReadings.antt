@@ -7,11 +7,11 @@ use Rattle.span_types.specs.declared.ids.TraceId.{TraceId}
 use Rattle.span_types.specs.declared.spans.Row.{Row}
 use Rattle.span_types.specs.Orders.{block_order}
 use Rattle.byte_fields.specs.Reading.{◌>>=◌, fixed64_at}
-use Rattle.span_fields.specs.Breaks.{in_part}
+use Rattle.byte_fields.specs.Breaks.{in_part}
 use Rattle.block_info.specs.declared.info.StripeInfo.{StripeInfo}
 use Rattle.block_info.specs.InfoParts.{InfoParts}
-use Rattle.block_index.specs.Bloom.{bloom_bytes, filter_pages}
-use Rattle.block_index.specs.Index.{entries, index_bytes, traces}
+use Rattle.block_format.specs.Bloom.{bloom_bytes, filter_pages}
+use Rattle.block_format.specs.Index.{entries, index_bytes, traces}
 use Rattle.block_format.specs.declared.header.Header.{Header}
 use Rattle.block_format.specs.Blocks.{form_of_rows, ids_of, index_page_of, info_of}
 use Rattle.block_format.specs.HeaderReadings.{header_at}

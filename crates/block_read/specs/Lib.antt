@@ -6,3 +6,6 @@ pub mod Checks
 pub mod PageReads
 pub mod Lookups
 pub mod Sketched
+pub mod Batches
+pub mod BatchWalks
+pub mod Wholes

@@ -8,11 +8,11 @@ use Rattle.span_types.specs.declared.spans.Row.{Row}
 use Rattle.rows_by_trace.specs.Traces.{is_of_trace}
 use Rattle.block_info.specs.declared.info.StripeInfo.{StripeInfo}
 use Rattle.block_info.specs.InfoParts.{InfoParts}
-use Rattle.block_index.specs.Index.{AreAscending, AreIds, entries, entries_on, index_bytes, is_same, page_entries}
-use Rattle.block_index.specs.Pages.{page_at}
+use Rattle.block_format.specs.Index.{AreAscending, AreIds, entries, entries_on, index_bytes, is_same, page_entries}
+use Rattle.block_format.specs.Pages.{page_at}
 use Rattle.block_format.specs.Blocks.{BlockHasInfo, ids_of}
-use Rattle.stripe_traces.specs.Wanted.{HasTraces}
-use Rattle.stripe_traces.specs.declared.traces.StripeTraces.{StripeTraces}
+use Rattle.stripe_skims.specs.Wanted.{HasTraces}
+use Rattle.stripe_skims.specs.declared.traces.StripeTraces.{StripeTraces}
 use Rattle.block_read.specs.Files.{page_of}
 use Rattle.block_read.specs.declared.error.ReadError.{ReadError}
 use Rattle.block_read.specs.declared.error.ReadError.TheVariants.{Fault, NotBlock, Memory}

@@ -1,16 +1,15 @@
 //! A whole block, read of the bytes of its file.
 
 ghost use Rattle.std.specs.Prelude.{IfOk};
-ghost use Rattle.span_fields.specs.Breaks.{Answers};
+ghost use Rattle.byte_fields.specs.Breaks.{Answers};
 ghost use Rattle.block_format.specs.Headers.{CanBeHeader};
 ghost use Rattle.block_read.specs.BlockReadings.{block_at};
 
 use crate::header::header;
 use crate::indexed::indexed;
 use crate::stripes::stripes;
-use block_format::Header;
-use block_rows::{form_of, ids_of};
-use span_fields::Break;
+use block_format::{Header, form_of, ids_of};
+use byte_fields::Break;
 use span_types::Rows;
 use std::alloc::Global;
 

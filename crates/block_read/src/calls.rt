@@ -3,7 +3,7 @@
 ghost use Rattle.std.specs.Prelude.{◌≡◌, ◌*◌, ◌≤◌, ℕ, IfOk, IsTrue, List};
 ghost use Rattle.std.specs.Int.{div_ceil};
 ghost use Rattle.rows_by_trace.specs.Traces.{rows_of_trace};
-ghost use Rattle.span_fields.specs.Breaks.{Answers};
+ghost use Rattle.byte_fields.specs.Breaks.{Answers};
 ghost use Rattle.span_types.specs.declared.spans.Row.{Row};
 ghost use Rattle.block_format.specs.Blocks.{BlockHasInfo};
 ghost use Rattle.block_format.specs.Headers.{CanBeHeader};
@@ -20,7 +20,7 @@ use crate::lookup::find_trace;
 use crate::traces::rows_at;
 use crate::{Pages, ReadError};
 use block_info::BlockInfo;
-use span_fields::Break;
+use byte_fields::Break;
 use span_types::{Rows, TraceId};
 use std::alloc::Global;
 

@@ -3,7 +3,7 @@
 
 ghost use Rattle.std.specs.Prelude.{◌≡◌, ◌++◌, ◌&&◌, ◌==◌, ◌*◌, ◌≤◌, IfOk, None, OnOk, length, max};
 ghost use Rattle.std.specs.List.{All};
-ghost use Rattle.span_fields.specs.Breaks.{Answers};
+ghost use Rattle.byte_fields.specs.Breaks.{Answers};
 ghost use Rattle.block_format.specs.Blocks.{form_of_rows, ids_of};
 ghost use Rattle.block_format.specs.Headers.{CanBeHeader};
 ghost use Rattle.block_read.specs.Answers.{made_of};
@@ -14,10 +14,9 @@ use crate::header::header;
 use crate::indexed::indexed;
 use crate::sketches::sketched;
 use crate::stripes::{last_of, placed_stripe};
-use block_format::Header;
+use block_format::{Header, form_of, ids_of, info_of};
 use block_info::BlockInfo;
-use block_rows::{form_of, ids_of, info_of};
-use span_fields::Break;
+use byte_fields::Break;
 use span_types::{Ids, Memory, Row};
 use std::alloc::Global;
 

@@ -1,13 +1,13 @@
 //! The header of a block's file.
 
 ghost use Rattle.std.specs.Prelude.{◌≡◌, IfOk};
-ghost use Rattle.span_fields.specs.Breaks.{Answers};
+ghost use Rattle.byte_fields.specs.Breaks.{Answers};
 ghost use Rattle.block_format.specs.Headers.{CanBeHeader};
 ghost use Rattle.block_read.specs.BlockReadings.{front_pages, header_of};
 
 use crate::file::{each_fits, part};
 use block_format::{FormatError, Header, read_header, read_header_is_held};
-use span_fields::Break;
+use byte_fields::Break;
 use std::alloc::Global;
 
 /// The header that the bytes of a file begin with.

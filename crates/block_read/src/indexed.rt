@@ -2,13 +2,12 @@
 
 ghost use Rattle.std.specs.Prelude.{◌≡◌, ◌+◌, ◌*◌, ◌≤◌, ◌<◌, ◌^◌, IfSome, drop, length};
 ghost use Rattle.std.specs.List.{All};
-ghost use Rattle.span_fields.specs.Breaks.{Answers};
+ghost use Rattle.byte_fields.specs.Breaks.{Answers};
 ghost use Rattle.block_format.specs.Headers.{CanBeHeader};
 ghost use Rattle.block_read.specs.BlockReadings.{common, differs_at, indexed, tail_bytes};
 
-use block_format::Header;
-use block_rows::{index_page, tail_of};
-use span_fields::Break;
+use block_format::{Header, index_page, tail_of};
+use byte_fields::Break;
 use span_types::Ids;
 use std::alloc::Global;
 

@@ -1,11 +1,11 @@
 //! Those of the rows of a stripe that are of some traces.
 
 ghost use Rattle.std.specs.Prelude.{◌≡◌, IfOk};
-ghost use Rattle.stripe_traces.specs.Wanted.{AreInOrder, HasTraces, is_one_of};
+ghost use Rattle.stripe_skims.specs.Wanted.{AreInOrder, HasTraces, is_one_of};
 
 use span_types::{Memory, Rows, TraceId};
 use std::alloc::Global;
-use stripe_traces::StripeTraces;
+use stripe_skims::StripeTraces;
 
 /// Those of the rows that are of these traces, whose ids ascend, and the trace of the last row. The others are let go.
 pub fn keep(alloc: Global, rows: Rows, ids: &[TraceId]) -> Result<StripeTraces, Memory>

@@ -11,7 +11,7 @@ ghost use Rattle.block_read.specs.BlockReadings.{block_at, info_read, listed_at}
 ghost use Rattle.block_read.specs.Files.{first_bytes};
 ghost use Rattle.block_read.specs.declared.block.Block.{Block};
 
-use block_index::filters_hold_their_traces;
+use block_format::filters_hold_their_traces;
 
 /// What the bytes of a block stand for is what reading gives.
 pub fn held_block_is_read()

@@ -5,9 +5,9 @@ ghost use Rattle.std.specs.List.{list_any};
 ghost use Rattle.span_types.specs.declared.ids.TraceId.{TraceId as Trace};
 ghost use Rattle.span_types.specs.declared.spans.Row.{Row};
 ghost use Rattle.block_format.specs.Blocks.{BlockHasInfo, ids_of};
-ghost use Rattle.block_index.specs.Bloom.{filter_page_of};
-ghost use Rattle.block_index.specs.Found.{found};
-ghost use Rattle.block_index.specs.Index.{entries_on, is_same};
+ghost use Rattle.block_format.specs.Bloom.{filter_page_of};
+ghost use Rattle.block_format.specs.Found.{found};
+ghost use Rattle.block_format.specs.Index.{entries_on, is_same};
 ghost use Rattle.block_read.specs.Answers.{RoseAtMost};
 ghost use Rattle.block_read.specs.Files.{page_of};
 ghost use Rattle.block_read.specs.Lookups.{HasIndex, bits, place_of};
@@ -15,7 +15,7 @@ ghost use Rattle.block_read.specs.PageReads.{OnlyReads};
 
 use crate::Pages;
 use crate::file::page_bytes;
-use block_index::{
+use block_format::{
     Found, entries_tell_rows, filters_hold_their_traces, find_in_page, fnv1a, may_hold,
     pages_find_their_traces,
 };

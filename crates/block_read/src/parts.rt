@@ -2,24 +2,24 @@
 
 ghost use Rattle.std.specs.Prelude.{◌≡◌, ◌+◌, ◌*◌, ◌^◌, ◌<◌, IfOk, IsTrue, List, None, Ok, drop, false};
 ghost use Rattle.span_types.specs.declared.spans.Row.{Row};
-ghost use Rattle.span_fields.specs.Breaks.{Answers};
+ghost use Rattle.byte_fields.specs.Breaks.{Answers};
 ghost use Rattle.block_format.specs.Blocks.{StripeHasEntry};
 ghost use Rattle.block_read.specs.Answers.{RoseAtMost, is_fault, is_unread};
 ghost use Rattle.block_read.specs.BlockReadings.{stripe_of};
 ghost use Rattle.block_read.specs.Files.{first_bytes, part_of};
 ghost use Rattle.block_read.specs.Lookups.{Finds, FindsTraces, IsInFile};
 ghost use Rattle.block_read.specs.PageReads.{OnlyReads};
-ghost use Rattle.stripe_traces.specs.Wanted.{AreInOrder, rows_of_traces};
+ghost use Rattle.stripe_skims.specs.Wanted.{AreInOrder, rows_of_traces};
 
 use crate::file::{Unread, bytes_from};
 use crate::kept::keep;
 use crate::stripes::stripe;
 use crate::{Pages, ReadError};
 use block_info::StripeInfo;
-use span_fields::Break;
+use byte_fields::Break;
 use span_types::{Row, Rows, TraceId};
 use std::alloc::Global;
-use stripe_traces::{StripeTraces, traces_of_stripe};
+use stripe_skims::{StripeTraces, traces_of_stripe};
 
 const PAGE_BYTES: u64 = 4096;
 

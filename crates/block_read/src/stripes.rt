@@ -5,7 +5,7 @@ ghost use Rattle.std.specs.Int.{div_ceil};
 ghost use Rattle.std.specs.List.{list_all, list_any};
 ghost use Rattle.std.specs.Ordering.{is_lt};
 ghost use Rattle.span_types.specs.Orders.{block_order};
-ghost use Rattle.span_fields.specs.Breaks.{Answers, Fails};
+ghost use Rattle.byte_fields.specs.Breaks.{Answers, Fails};
 ghost use Rattle.block_format.specs.Headers.{CanBeHeader};
 ghost use Rattle.block_stripes.specs.StripeReadings.{stripe_at};
 ghost use Rattle.block_stripes.specs.Stripes.{is_extended};
@@ -17,8 +17,7 @@ use crate::file::{each_fits, part};
 use block_format::{FormatError, Header};
 use block_info::StripeInfo;
 use block_stripes::{read_is_held, read_size, read_starts, read_stripe};
-use byte_fields::Reader;
-use span_fields::{Break, fixed64};
+use byte_fields::{Break, Reader, fixed64};
 use span_types::{Memory, Row, TryCopy};
 use std::alloc::Global;
 

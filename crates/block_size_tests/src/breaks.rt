@@ -13,7 +13,7 @@
 use crate::blocks::{FILE, LEVEL, Layout, block_of, checked};
 use crate::rows::{Owners, Said};
 use block_read::check_bytes;
-use span_fields::Break;
+use byte_fields::Break;
 use span_types::{Memory, Rows};
 use std::alloc::Global;
 use std::process::Abort;

@@ -10,7 +10,7 @@
 use crate::blocks::{Filed, Layout, block_of, checked};
 use crate::rows::{Owners, Said, said_of};
 use block_build::{Builder, BuiltBlock};
-use block_cursor::{ReadBlock, RowsLeft};
+use block_read::{ReadBlock, RowsLeft};
 use compactor::merge_rows;
 use span_types::{Memory, Row, Rows, Seq};
 use std::alloc::Global;
@@ -176,7 +176,7 @@ fn merged(rt: &(impl Abort + AllocGlobal), blocks: &[u64]) -> Rows {
     let mut parts = Vec::new(rt.alloc());
     for block in blocks {
         let BuiltBlock { bytes, .. } = part(rt, *block);
-        let held = block_cursor::checked(rt.alloc(), bytes, PART.rows).expect(rt, "a block");
+        let held = block_read::checked(rt.alloc(), bytes, PART.rows).expect(rt, "a block");
         parts.push(gone_over(rt, &held)).expect(rt, "memory");
     }
     merge_rows(rt.alloc(), Seq::of(parts)).expect(rt, "memory")

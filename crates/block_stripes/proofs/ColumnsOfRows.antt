@@ -11,10 +11,10 @@ use Rattle.span_types.specs.declared.spans.SpanLink.{SpanLink}
 use Rattle.span_types.specs.Equal.{same_resource, same_scope}
 use Rattle.span_types.specs.EqualLaws.{resource_decides, scope_decides}
 use Rattle.byte_fields.specs.Spelling.{fixed64_bytes, var_bytes}
-use Rattle.span_fields.specs.Encodings.{id_bytes, kind_bytes, parent_bytes, status_bytes, trace_bytes}
-use Rattle.span_fields.specs.Sound.{AreSound, IsAny, IsBelow64, IsParent, IsSpanId, IsTrace, IsWord}
-use Rattle.span_fields.proofs.Again.{again_fixed64, again_kind, again_parent, again_span_id, again_status, again_trace, again_var}
-use Rattle.span_fields.proofs.Meant.{meant_fixed64, meant_kind, meant_parent, meant_span_id, meant_status, meant_trace, meant_var}
+use Rattle.byte_fields.specs.SpanEncodings.{id_bytes, kind_bytes, parent_bytes, status_bytes, trace_bytes}
+use Rattle.byte_fields.specs.Sound.{AreSound, IsAny, IsBelow64, IsParent, IsSpanId, IsTrace, IsWord}
+use Rattle.byte_fields.proofs.Again.{again_fixed64, again_kind, again_parent, again_span_id, again_status, again_trace, again_var}
+use Rattle.byte_fields.proofs.Meant.{meant_fixed64, meant_kind, meant_parent, meant_span_id, meant_status, meant_trace, meant_var}
 use Rattle.block_columns.specs.ColumnReadings.{Read, counted_at, number_at, only_if_at, reference_at}
 use Rattle.block_columns.specs.ColumnEncodings.{Encoding, both, column, columns, counted, first_uses, only_if, owners, plain}
 use Rattle.block_columns.specs.ColumnLaws.{ColumnLaws, IsBoth, IsColumn, IsOnlyIf, Laws}
@@ -23,14 +23,14 @@ use Rattle.block_columns.proofs.Bundles.{IsCounted, of_both, of_counted, of_fiel
 use Rattle.block_columns.proofs.References.{IsOwners}
 use Rattle.block_columns.proofs.Seams.{Kept, Seam, all_both, all_same, kept_both, kept_column, kept_owners, seam_column, seam_first, seam_last}
 use Rattle.block_columns.proofs.Tabled.{IsOwnerTable, table_laws}
-use Rattle.block_parts.specs.PartEncodings.{attrs_by, event_by, link_by, text_by}
-use Rattle.block_parts.specs.PartReadings.{event_with, link_with, resource_with, scope_with}
-use Rattle.block_parts.specs.PartsKept.{AreKeptAttrs, AreTexts, IsKeptEvent, IsKeptLink, IsKeptResource, IsKeptScope}
+use Rattle.block_columns.specs.PartEncodings.{attrs_by, event_by, link_by, text_by}
+use Rattle.block_columns.specs.PartReadings.{event_with, link_with, resource_with, scope_with}
+use Rattle.block_columns.specs.PartsKept.{AreKeptAttrs, AreTexts, IsKeptEvent, IsKeptLink, IsKeptResource, IsKeptScope}
 use Rattle.block_stripes.specs.StripeEncodings.{resources_of, row_columns, scopes_of}
 use Rattle.block_stripes.specs.StripeReadings.{Listed, cells_at, is_no_position, position_at}
 use Rattle.block_stripes.specs.StripeRows.{Cells, cells_of}
 use Rattle.block_stripes.specs.Stripes.{IsKeptRow}
-use Rattle.block_parts.proofs.PartLaws.{attrs_laws, event_laws, link_laws, text_laws}
+use Rattle.block_columns.proofs.PartLaws.{attrs_laws, event_laws, link_laws, text_laws}
 
 -- ---- bytes
 

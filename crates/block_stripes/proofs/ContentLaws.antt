@@ -13,10 +13,10 @@ use Rattle.span_types.specs.EqualLaws.{resource_decides, scope_decides}
 use Rattle.byte_fields.specs.Spelling.{text_bytes, var_bytes}
 use Rattle.byte_fields.specs.Reading.{Stand, IsWithin, left, ahead, ◌>>=◌}
 use Rattle.byte_fields.proofs.FieldLaws.{left-ahead}
-use Rattle.span_fields.specs.Laws.{Took}
-use Rattle.span_fields.specs.Sound.{IsBelow64, IsWord}
-use Rattle.span_fields.proofs.Again.{again_text, within_ahead}
-use Rattle.span_fields.proofs.Meant.{Bound, bound, kept_else, meant_text, took_then}
+use Rattle.byte_fields.specs.Laws.{Took}
+use Rattle.byte_fields.specs.Sound.{IsBelow64, IsWord}
+use Rattle.byte_fields.proofs.Again.{again_text, within_ahead}
+use Rattle.byte_fields.proofs.Meant.{Bound, bound, kept_else, meant_text, took_then}
 use Rattle.block_columns.specs.Tables.{AllAfter}
 use Rattle.block_columns.specs.ColumnReadings.{Spot, Read, all_used, made_at, number_at, table_at}
 use Rattle.block_columns.specs.ColumnEncodings.{Encoded, Encoding, both, column, columns, counted, first_uses, followed, plain}
@@ -29,15 +29,15 @@ use Rattle.block_columns.proofs.MeantParts.{wrote_at, wrote_then}
 use Rattle.block_columns.proofs.References.{again_number, meant_number, used_up}
 use Rattle.block_columns.proofs.Seams.{Seam, map_twice}
 use Rattle.block_columns.proofs.Tabled.{IsOver, IsOwnerTable, IsWith, Parted, get_each, joined, of_table, parted}
-use Rattle.block_parts.specs.PartEncodings.{resource_by, scope_by}
-use Rattle.block_parts.specs.PartReadings.{resource_with, scope_with}
-use Rattle.block_parts.specs.PartsKept.{AreTexts, IsKeptResource, IsKeptScope}
+use Rattle.block_columns.specs.PartEncodings.{resource_by, scope_by}
+use Rattle.block_columns.specs.PartReadings.{resource_with, scope_with}
+use Rattle.block_columns.specs.PartsKept.{AreTexts, IsKeptResource, IsKeptScope}
 use Rattle.block_stripes.specs.StripeEncodings.{content_bytes, counted_rows, owned_rows, resources_of, row_columns, scoped_rows, scopes_of, texts_bytes, with_texts}
 use Rattle.block_stripes.specs.StripeReadings.{Listed, cells_at, content_at, counted_rows_at, is_no_size, owned_rows_at, rows_of, scoped_rows_at, size_at, texts_first, whole_text_at}
 use Rattle.block_stripes.specs.StripeRows.{Cells, cells_of, row_of}
 use Rattle.block_stripes.specs.Stripes.{IsKeptRow}
 use Rattle.block_stripes.proofs.ColumnsOfRows.{AreCells, AreRowsOver, cells_are, cells_by, cells_laws, cells_seam, rows_are}
-use Rattle.block_parts.proofs.PartLaws.{resource_laws, scope_laws}
+use Rattle.block_columns.proofs.PartLaws.{resource_laws, scope_laws}
 
 -- ---- the number of rows
 

@@ -8,11 +8,11 @@ use Rattle.span_types.specs.declared.spans.Row.{Row}
 use Rattle.span_types.specs.Equal.{same_resource, same_scope}
 use Rattle.span_types.specs.EqualLaws.{resource_decides, scope_decides}
 use Rattle.byte_fields.specs.Reading.{AreBytes}
-use Rattle.span_fields.specs.Sound.{AreSound, IsBelow64, IsParent, IsSpanId, IsTrace, IsWord}
+use Rattle.byte_fields.specs.Sound.{AreSound, IsBelow64, IsParent, IsSpanId, IsTrace, IsWord}
 use Rattle.block_columns.specs.ColumnEncodings.{Encoded, wrote}
 use Rattle.block_columns.specs.ColumnLaws.{IsOnlyIf}
 use Rattle.block_columns.proofs.Tabled.{each_used}
-use Rattle.block_parts.specs.PartsKept.{AreKeptAttrs, IsKeptEvent, IsKeptLink, IsKeptResource, IsKeptScope}
+use Rattle.block_columns.specs.PartsKept.{AreKeptAttrs, IsKeptEvent, IsKeptLink, IsKeptResource, IsKeptScope}
 use Rattle.block_stripes.specs.StripeEncodings.{after_length, content_bytes, owned_rows, padded, resources_of, scopes_of, stripe_bytes, texts_bytes, with_texts}
 use Rattle.block_stripes.specs.Stripes.{AreStripe, AreWhole, IsKeptRow, IsWritten, StripeHolds, can_be_stripe, has_form, is_extended}
 use Rattle.block_stripes.specs.StripeReadings.{ascend, is_no_size}

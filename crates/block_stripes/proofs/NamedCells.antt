@@ -8,9 +8,9 @@ use Rattle.span_types.specs.declared.ids.SpanId.{SpanId}
 use Rattle.span_types.specs.declared.ids.TraceId.{TraceId}
 use Rattle.span_types.specs.Promises.{all_zero}
 use Rattle.byte_fields.specs.Reading.{Stand, ◌>>=◌, byte_at, raw_at}
-use Rattle.span_fields.specs.Breaks.{in_part}
-use Rattle.span_fields.specs.Decodings.{id_at, parent_at, parent_of, some_id_at, span_id_at, trace_id_at}
-use Rattle.span_fields.proofs.Meant.{Bound, bound, chosen, kept_else, kept_then}
+use Rattle.byte_fields.specs.Breaks.{in_part}
+use Rattle.byte_fields.specs.SpanDecodings.{id_at, parent_at, parent_of, some_id_at, span_id_at, trace_id_at}
+use Rattle.byte_fields.proofs.Meant.{Bound, bound, chosen, kept_else, kept_then}
 use Rattle.block_columns.specs.ColumnReadings.{Spot, at_spot, field}
 use Rattle.block_columns.specs.ColumnLaws.{read_to}
 use Rattle.block_columns.proofs.Basics.{same_read}

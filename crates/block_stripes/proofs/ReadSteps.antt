@@ -10,8 +10,8 @@ use Rattle.span_types.specs.Orders.{block_order}
 use Rattle.byte_fields.specs.declared.error.FieldError.{FieldError}
 use Rattle.byte_fields.specs.declared.error.FieldError.TheVariants.{Short}
 use Rattle.byte_fields.specs.Reading.{Stand, ◌>>=◌, ahead, fixed64_at, left, raw_at}
-use Rattle.span_fields.specs.Breaks.{in_part, or_place}
-use Rattle.span_fields.proofs.Meant.{Bound, bound}
+use Rattle.byte_fields.specs.Breaks.{in_part, or_place}
+use Rattle.byte_fields.proofs.Meant.{Bound, bound}
 use Rattle.block_columns.proofs.Numbering.{position_step}
 use Rattle.block_stripes.specs.StripeReadings.{ascend_after, rows_of, zeros}
 use Rattle.block_stripes.specs.StripeRows.{Cells, row_of}

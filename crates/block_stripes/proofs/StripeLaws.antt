@@ -7,16 +7,16 @@ use Rattle.span_types.specs.declared.spans.Row.{Row}
 use Rattle.span_types.specs.Equal.{same_resource, same_scope}
 use Rattle.byte_fields.specs.Spelling.{fixed64_bytes, groups, text_bytes, var_bytes}
 use Rattle.byte_fields.specs.Reading.{Stand, AreBytes, IsWithin, left, ahead, ◌>>=◌, fixed64_at}
-use Rattle.span_fields.specs.Breaks.{in_part}
-use Rattle.span_fields.specs.Laws.{Got}
-use Rattle.span_fields.proofs.Again.{again_fixed64}
-use Rattle.span_fields.proofs.Meant.{Bound, bound, kept_then, meant_fixed64}
+use Rattle.byte_fields.specs.Breaks.{in_part}
+use Rattle.byte_fields.specs.Laws.{Got}
+use Rattle.byte_fields.proofs.Again.{again_fixed64}
+use Rattle.byte_fields.proofs.Meant.{Bound, bound, kept_then, meant_fixed64}
 use Rattle.block_columns.specs.ColumnReadings.{Spot}
 use Rattle.block_columns.specs.ColumnEncodings.{column, counted, plain}
 use Rattle.block_columns.proofs.Numbering.{position_step}
 use Rattle.block_columns.proofs.Seams.{all_cells, all_same}
 use Rattle.block_columns.proofs.Tabled.{uses_are_table}
-use Rattle.block_parts.specs.PartsKept.{IsKeptResource, IsKeptScope}
+use Rattle.block_columns.specs.PartsKept.{IsKeptResource, IsKeptScope}
 use Rattle.block_stripes.specs.StripeEncodings.{after_length, content_bytes, fill_size, owned_rows, padded, resources_of, scopes_of, stripe_bytes, with_texts}
 use Rattle.block_stripes.specs.StripeReadings.{ascend, content_at, content_of, content_part, stripe_at, unfilled, unless_some, zeros}
 use Rattle.block_stripes.specs.Stripes.{AreStripe}

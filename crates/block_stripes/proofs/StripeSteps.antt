@@ -9,7 +9,7 @@ use Rattle.byte_fields.specs.Spelling.{var_bytes}
 use Rattle.block_columns.specs.ColumnEncodings.{Encoded, Encoding, column, columns, counted, first_uses, followed, numbered, plain, reference, wrote}
 use Rattle.block_columns.proofs.Seams.{column_of}
 use Rattle.block_columns.proofs.WritingSteps.{columns_append}
-use Rattle.block_parts.specs.PartEncodings.{resource_by, scope_by}
+use Rattle.block_columns.specs.PartEncodings.{resource_by, scope_by}
 use Rattle.block_stripes.specs.StripeEncodings.{counted_rows, owned_rows, resources_of, row_columns, scoped_rows, scopes_of}
 
 -- ---- writing

@@ -5,9 +5,9 @@ use Rattle.span_types.specs.declared.attrs.Scope.{Scope}
 use Rattle.span_types.specs.declared.spans.Row.{Row}
 use Rattle.span_types.specs.Equal.{same_resource, same_scope}
 use Rattle.byte_fields.specs.Spelling.{fixed64_bytes, text_bytes, var_bytes}
-use Rattle.span_fields.specs.Encodings.{id_bytes, kind_bytes, parent_bytes, status_bytes, trace_bytes}
+use Rattle.byte_fields.specs.SpanEncodings.{id_bytes, kind_bytes, parent_bytes, status_bytes, trace_bytes}
 use Rattle.block_columns.specs.ColumnEncodings.{Encoded, Encoding, column, columns, counted, first_uses, followed, only_if, owners, plain}
-use Rattle.block_parts.specs.PartEncodings.{attrs_by, event_by, link_by, resource_by, scope_by, text_by}
+use Rattle.block_columns.specs.PartEncodings.{attrs_by, event_by, link_by, resource_by, scope_by, text_by}
 
 -- ---- columns
 

@@ -9,10 +9,10 @@ use Rattle.span_types.specs.declared.spans.Row.{Row}
 use Rattle.span_types.specs.Equal.{same_resource, same_scope}
 use Rattle.span_types.specs.Orders.{block_order}
 use Rattle.byte_fields.specs.Reading.{Stand, ◌>>=◌, fixed64_at, text_at}
-use Rattle.span_fields.specs.Breaks.{in_part}
-use Rattle.span_fields.specs.Decodings.{kind_at, parent_at, span_id_at, status_at, trace_id_at}
+use Rattle.byte_fields.specs.Breaks.{in_part}
+use Rattle.byte_fields.specs.SpanDecodings.{kind_at, parent_at, span_id_at, status_at, trace_id_at}
 use Rattle.block_columns.specs.ColumnReadings.{Spot, Read, all_used, both_at, column_at, counted_at, field, made_at, number_at, only_if_at, owners_at, reference_at, table_at, unless_at}
-use Rattle.block_parts.specs.PartReadings.{attrs_with, event_with, link_with, resource_with, scope_with}
+use Rattle.block_columns.specs.PartReadings.{attrs_with, event_with, link_with, resource_with, scope_with}
 use Rattle.block_stripes.specs.StripeEncodings.{fill_size}
 use Rattle.block_stripes.specs.StripeRows.{Cells, OwnerCells, row_of}
 

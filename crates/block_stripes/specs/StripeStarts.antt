@@ -7,10 +7,10 @@ use Rattle.span_types.specs.declared.ids.TraceId.{TraceId}
 use Rattle.span_types.specs.declared.spans.SpanKind.{SpanKind}
 use Rattle.span_types.specs.Equal.{same_resource, same_scope}
 use Rattle.byte_fields.specs.Reading.{◌>>=◌, fixed64_at}
-use Rattle.span_fields.specs.Breaks.{in_part}
-use Rattle.span_fields.specs.Decodings.{kind_at, parent_at, span_id_at, trace_id_at}
+use Rattle.byte_fields.specs.Breaks.{in_part}
+use Rattle.byte_fields.specs.SpanDecodings.{kind_at, parent_at, span_id_at, trace_id_at}
 use Rattle.block_columns.specs.ColumnReadings.{Spot, Read, both_at, column_at, field, number_at, reference_at, table_at}
-use Rattle.block_parts.specs.PartReadings.{resource_with, scope_with}
+use Rattle.block_columns.specs.PartReadings.{resource_with, scope_with}
 use Rattle.block_stripes.specs.StripeReadings.{content_part, moment_at, position_at, size_at, whole_text_at}
 
 -- where the content of a stripe stands, by its length

@@ -5,12 +5,12 @@ use Rattle.span_types.specs.declared.spans.Row.{Row}
 use Rattle.span_types.specs.Equal.{same_resource, same_scope}
 use Rattle.span_types.specs.Promises.{all_zero}
 use Rattle.byte_fields.specs.Reading.{AreBytes}
-use Rattle.span_fields.specs.Sound.{AreSound, IsBelow64, IsParent, IsSpanId, IsTrace, IsWord}
+use Rattle.byte_fields.specs.Sound.{AreSound, IsBelow64, IsParent, IsSpanId, IsTrace, IsWord}
 use Rattle.block_columns.specs.ColumnEncodings.{first_uses}
 use Rattle.block_columns.specs.ColumnLaws.{IsOnlyIf}
 use Rattle.block_stripes.specs.declared.error.FormatError.{FormatError}
 use Rattle.block_stripes.specs.declared.error.FormatError.TheVariants.{NotBlock, Memory}
-use Rattle.block_parts.specs.PartsKept.{AreKeptAttrs, IsKeptEvent, IsKeptLink, IsKeptResource, IsKeptScope}
+use Rattle.block_columns.specs.PartsKept.{AreKeptAttrs, IsKeptEvent, IsKeptLink, IsKeptResource, IsKeptScope}
 use Rattle.block_stripes.specs.StripeEncodings.{content_bytes, resources_of, scopes_of, stripe_bytes}
 use Rattle.block_stripes.specs.StripeReadings.{ascend, is_no_size}
 use Rattle.block_stripes.specs.StripeRows.{Cells}

@@ -11,7 +11,7 @@ use crate::kinds::{
     SpanIds, SpanKinds, Statuses, TraceIds,
 };
 use block_columns::{Both, Columns, Fields, Kind, Owners, Referred, Single, column};
-use span_fields::Break;
+use byte_fields::Break;
 use span_types::{
     Attrs, Events, Links, SharedResource, SharedScope, SpanId, SpanKind, StatusCode, Text, TraceId,
     TryCopy,

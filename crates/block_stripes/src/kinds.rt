@@ -1,13 +1,12 @@
 //! The kinds of values that a stripe's columns and tables have.
 
 ghost use Rattle.block_columns.specs.ColumnReadings.{counted_at, field, number_at, only_if_at, unless_at};
-ghost use Rattle.span_fields.specs.Decodings.{kind_at, parent_at, span_id_at, status_at, trace_id_at};
-ghost use Rattle.block_parts.specs.PartReadings.{attrs_with, event_with, link_with, resource_with, scope_with};
+ghost use Rattle.byte_fields.specs.SpanDecodings.{kind_at, parent_at, span_id_at, status_at, trace_id_at};
+ghost use Rattle.block_columns.specs.PartReadings.{attrs_with, event_with, link_with, resource_with, scope_with};
 ghost use Rattle.block_stripes.specs.StripeReadings.{moment_at, position_at, whole_text_at};
 
-use block_columns::{Fields, Kind, counted};
-use block_parts::{attrs, event, link, resource, scope};
-use span_fields::Break;
+use block_columns::{Fields, Kind, attrs, counted, event, link, resource, scope};
+use byte_fields::Break;
 use span_types::{
     Attrs, Events, Links, Resource, Scope, SpanEvent, SpanId, SpanKind, SpanLink, StatusCode, Text,
     TraceId,

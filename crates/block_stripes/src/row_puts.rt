@@ -1,16 +1,18 @@
 //! Writing the columns of rows.
 
 ghost use Rattle.std.specs.Prelude.{◌≡◌, ◌<◌, OnOk};
-ghost use Rattle.span_fields.specs.Encodings.{id_bytes, kind_bytes, parent_bytes, status_bytes, trace_bytes};
-ghost use Rattle.span_fields.specs.Sound.{IsBelow64, IsParent, IsSpanId, IsTrace, IsWord};
+ghost use Rattle.byte_fields.specs.SpanEncodings.{id_bytes, kind_bytes, parent_bytes, status_bytes, trace_bytes};
+ghost use Rattle.byte_fields.specs.Sound.{IsBelow64, IsParent, IsSpanId, IsTrace, IsWord};
 ghost use Rattle.block_columns.specs.ColumnEncodings.{columns, plain, reference, wrote};
 ghost use Rattle.span_types.specs.Equal.{same_resource, same_scope};
-ghost use Rattle.block_parts.specs.PartsKept.{AreKeptAttrs, IsKeptEvent, IsKeptLink};
+ghost use Rattle.block_columns.specs.PartsKept.{AreKeptAttrs, IsKeptEvent, IsKeptLink};
 ghost use Rattle.block_stripes.specs.StripeEncodings.{attrs_cell, end_cell, events_cell, id_cell, id_columns, kind_cell, links_cell, message_cell, name_cell, name_columns, number_cell, parent_cell, position_cell, start_cell, status_cell, time_columns, trace_cell};
 ghost use Rattle.block_stripes.specs.Stripes.{AreIds, AreNames, AreTimes, IsWritten};
 
-use block_columns::{Page, Put, put_column, put_counted};
-use block_parts::{PutEvent, PutLink, put_attrs, put_id, put_moment, put_text, put_trace};
+use block_columns::{
+    Page, Put, PutEvent, PutLink, put_attrs, put_column, put_counted, put_id, put_moment, put_text,
+    put_trace,
+};
 use row_refs::RowRef;
 use span_types::{Memory, Resource, Scope, Span, Text};
 
@@ -31,7 +33,7 @@ fn put_id_of(page: &mut Page<Text>, span: &Span) -> Result<(), Memory>
 }
 
 /// Adds a span's parent.
-#[tactic(auto, unfolding(span_fields::specs::Encodings::parent_bytes))]
+#[tactic(auto, unfolding(byte_fields::specs::SpanEncodings::parent_bytes))]
 fn put_parent_of(page: &mut Page<Text>, span: &Span) -> Result<(), Memory>
     ensures written { OnOk result (page.new ≡ wrote (plain parent_bytes) span.now.parent page.old) }
     ensures sound { OnOk result (IsParent span.now.parent) }

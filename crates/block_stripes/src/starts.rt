@@ -1,7 +1,7 @@
 //! Reading of a stripe how many rows it has, and when they start, whatever comes after that.
 
 ghost use Rattle.std.specs.Prelude.{◌≡◌, ◌≤◌, IfOk, length, map};
-ghost use Rattle.span_fields.specs.Breaks.{Answers};
+ghost use Rattle.byte_fields.specs.Breaks.{Answers};
 ghost use Rattle.block_columns.specs.Outcomes.{Finds};
 ghost use Rattle.block_stripes.specs.StripeReadings.{content_part};
 ghost use Rattle.block_stripes.specs.StripeStarts.{content_spot, size_after, size_of, start_cells_at, start_of, starts_of, texts_and_size_at};
@@ -12,9 +12,8 @@ use crate::kinds::{
 };
 use crate::stripe_reading::{front, size};
 use block_columns::{Both, Columns, Fields, Referred, Single, table};
-use byte_fields::Reader;
+use byte_fields::{Break, Reader, fixed64};
 use indexmap::IndexSet;
-use span_fields::{Break, fixed64};
 use span_types::{Memory, SpanId, SpanKind, Text, TraceId};
 use std::alloc::Global;
 

@@ -1,7 +1,7 @@
 //! Reading a stripe.
 
 ghost use Rattle.std.specs.Prelude.{◌≡◌, ◌+◌, ◌<◌, ◌≤◌, ◌^◌, IfOk, OnOk, Err, false, length, take, true};
-ghost use Rattle.span_fields.specs.Breaks.{Answers, Fails};
+ghost use Rattle.byte_fields.specs.Breaks.{Answers, Fails};
 ghost use Rattle.block_columns.specs.Outcomes.{Finds};
 ghost use Rattle.block_stripes.specs.StripeReadings.{content_at, content_of, counted_rows_at, owned_rows_at, scoped_rows_at, size_at, stripe_at, texts_first};
 ghost use Rattle.block_stripes.specs.Stripes.{ReadsFrom, is_extended};
@@ -12,9 +12,8 @@ use crate::fill::unfilled;
 use crate::kinds::{Resources, Scopes, WholeTexts};
 use crate::rows::{ascend, rows_of_cells};
 use block_columns::{Fields, table, unused};
-use byte_fields::Reader;
+use byte_fields::{Break, Reader, fixed64};
 use indexmap::IndexSet;
-use span_fields::{Break, fixed64};
 use span_types::{Memory, Row, Rows, Shared, SharedResource, Text};
 use std::alloc::Global;
 use std::hash::Hash;

@@ -15,8 +15,7 @@ use crate::row_puts::{
     AttrColumn, EventColumn, LinkColumn, ResourceColumn, ScopeColumn, put_ids, put_names, put_times,
 };
 use crate::rows::ascend;
-use block_columns::{Page, Put, put_column, put_table};
-use block_parts::{PutResource, PutScope, PutText};
+use block_columns::{Page, Put, PutResource, PutScope, PutText, put_column, put_table};
 use indexmap::IndexSet;
 use row_refs::{RowRef, refs_of};
 use span_types::{Bytes, Memory, Resource, Row, Rows, Scope, Text};

@@ -1,7 +1,7 @@
 //! The index and the Bloom filters of a block of one trace, by the examples of the format's page.
 
 use crate::given::{page, with_bytes};
-use block_index::{Found, bloom_pages, find_in_page, index_pages, may_hold};
+use block_format::{Found, bloom_pages, find_in_page, index_pages, may_hold};
 use span_types::{Ids, Memory, TraceId};
 use std::alloc::Global;
 

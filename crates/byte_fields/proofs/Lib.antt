@@ -2,3 +2,11 @@ pub mod NumberLaws
 pub mod Texts
 pub mod FieldLaws
 pub mod TextLaws
+pub mod BreakLemmas
+pub mod ReadingLoops
+pub mod Again
+pub mod Meant
+pub mod Distinct
+pub mod Results
+pub mod Promised
+pub mod KeyLemmas

@@ -2,3 +2,10 @@ pub mod Spelling
 pub mod Numbers
 pub mod Reading
 pub mod Faults
+pub mod Breaks
+pub mod SpanEncodings
+pub mod Sound
+pub mod SpanDecodings
+pub mod Laws
+pub mod Keys
+pub mod Written

@@ -10,3 +10,10 @@ pub mod CoreLemmas
 pub mod PinLemmas
 pub mod AnswerLemmas
 pub mod OwnFileLaws
+pub mod ScriptLemmas
+pub mod ToldLemmas
+pub mod NameLemmas
+pub mod ClientRuns
+pub mod ServeLemmas
+pub mod Crossing
+pub mod ScriptCores

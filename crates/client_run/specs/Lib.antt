@@ -5,3 +5,7 @@ pub mod Walked
 pub mod CoreRuns
 pub mod Answers
 pub mod OwnFiles
+pub mod Scripts
+pub mod Told
+pub mod Served
+pub mod Stages

@@ -4,7 +4,7 @@ ghost use Rattle.std.specs.Prelude.{[], IfSome};
 ghost use Rattle.store_core.specs.Port.{port_of};
 
 use crate::spans::{ask, push};
-use client_scripts::{Answered, Script, run_scripts};
+use client_run::{Answered, Script, run_scripts};
 use disk_model::{Device, MemDisk};
 use io_edges::OpenGate;
 use session_text::Reply;

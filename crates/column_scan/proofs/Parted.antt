@@ -12,10 +12,10 @@ use Rattle.span_types.specs.declared.ids.TraceId.{TraceId}
 use Rattle.span_types.specs.declared.spans.Row.{Row}
 use Rattle.block_info.specs.InfoParts.{InfoParts}
 use Rattle.block_format.specs.Blocks.{BlockHasInfo, ids_of}
-use Rattle.block_index.specs.Index.{AreAscending}
+use Rattle.block_format.specs.Index.{AreAscending}
 use Rattle.block_read.proofs.DescribedLaws.{index_stands}
 use Rattle.block_read.proofs.TogetherLaws.{total}
-use Rattle.stripe_traces.specs.Wanted.{last_or, last_trace}
+use Rattle.stripe_skims.specs.Wanted.{last_or, last_trace}
 use Rattle.column_scan.specs.Scans.{PartsRows}
 use Rattle.column_scan.specs.Sifting.{TellsLast}
 

@@ -15,7 +15,7 @@ use Rattle.block_stripes.specs.StripeReadings.{stripe_at}
 use Rattle.block_stripes.specs.Stripes.{is_extended}
 use Rattle.stripe_glances.specs.Glances.{IsGlance, TellsIfRead}
 use Rattle.stripe_glances.specs.declared.glances.Glance.{Glance}
-use Rattle.stripe_traces.specs.Wanted.{last_or, last_trace}
+use Rattle.stripe_skims.specs.Wanted.{last_or, last_trace}
 use Rattle.column_scan.specs.declared.picks.Pick.{Pick}
 use Rattle.column_scan.specs.Candidates.{HaveLatest, hinted_by, is_hinted, pick_of, spans_of}
 use Rattle.column_scan.specs.Sieves.{SieveParts, meets_members, sifted_picks}

@@ -3,8 +3,8 @@ use Rattle.std.proofs.Common.{◌≡◌, ℕ, ◌+◌, ◌==◌, Bool, true, fal
 use Rattle.std.specs.Int.{div_ceil}
 use Rattle.span_types.specs.declared.spans.Row.{Row}
 use Rattle.byte_fields.specs.Reading.{◌>>=◌, fixed64_at}
-use Rattle.span_fields.specs.Breaks.{in_part}
-use Rattle.span_fields.proofs.Meant.{bound}
+use Rattle.byte_fields.specs.Breaks.{in_part}
+use Rattle.byte_fields.proofs.Meant.{bound}
 use Rattle.block_info.specs.declared.info.StripeInfo.{StripeInfo}
 use Rattle.block_stripes.specs.StripeReadings.{stripe_at}
 use Rattle.block_stripes.specs.Stripes.{is_extended}

@@ -13,9 +13,9 @@ use Rattle.span_types.specs.declared.spans.Row.{Row}
 use Rattle.span_types.specs.Equal.{same_resource, same_scope}
 use Rattle.span_types.specs.Promises.{has_key}
 use Rattle.byte_fields.specs.Reading.{Stand, ◌>>=◌, byte_at, fixed64_at, zigzag_at}
-use Rattle.span_fields.specs.Breaks.{in_part}
-use Rattle.span_fields.specs.Decodings.{text_value_at, truth_at, truth_value_at, value_at, value_of, whole_value_at}
-use Rattle.span_fields.proofs.Meant.{bound, chosen, kept_else, kept_then}
+use Rattle.byte_fields.specs.Breaks.{in_part}
+use Rattle.byte_fields.specs.SpanDecodings.{text_value_at, truth_at, truth_value_at, value_at, value_of, whole_value_at}
+use Rattle.byte_fields.proofs.Meant.{bound, chosen, kept_else, kept_then}
 use Rattle.block_columns.specs.ColumnLaws.{read_to}
 use Rattle.block_columns.specs.ColumnReadings.{Read, Spot, all_used, column_at, counted_at, field, items_at, made_at, named, new_at, number_at, or_malformed, owners_at, pair_at, reference_at, table_at, unless_at}
 use Rattle.block_columns.proofs.Added.{each_of}
@@ -24,7 +24,7 @@ use Rattle.block_columns.proofs.MeantParts.{at_spot_ok}
 use Rattle.block_columns.proofs.ReadingSteps.{items_good}
 use Rattle.block_columns.proofs.References.{used_up}
 use Rattle.block_columns.proofs.Seams.{GoodColumn, good_any, good_both, good_values}
-use Rattle.block_parts.specs.PartReadings.{as_attr, as_resource, as_scope, attr_with, attrs_with, resource_with, scope_with, value_with}
+use Rattle.block_columns.specs.PartReadings.{as_attr, as_resource, as_scope, attr_with, attrs_with, resource_with, scope_with, value_with}
 use Rattle.block_stripes.specs.StripeReadings.{Listed, ascend, cells_at, content_at, content_of, content_part, counted_rows_at, owned_rows_at, rows_of, scoped_rows_at, size_at, stripe_at, texts_first, unfilled, unless_some, whole_text_at}
 use Rattle.block_stripes.specs.StripeRows.{Cells, row_of}
 use Rattle.block_stripes.specs.StripeStarts.{content_spot}

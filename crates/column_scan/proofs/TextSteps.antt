@@ -4,8 +4,8 @@ use Rattle.std.specs.List.{list_any}
 use Rattle.std.specs.Str.{is_utf8}
 use Rattle.byte_fields.specs.declared.error.FieldError.{FieldError}
 use Rattle.byte_fields.specs.Reading.{Stand, ◌>>=◌, fixed64_at, raw_at, text_at, var_at}
-use Rattle.span_fields.specs.Breaks.{in_part, or_place}
-use Rattle.span_fields.proofs.Meant.{bound}
+use Rattle.byte_fields.specs.Breaks.{in_part, or_place}
+use Rattle.byte_fields.proofs.Meant.{bound}
 use Rattle.block_columns.specs.ColumnLaws.{read_to}
 use Rattle.block_columns.specs.ColumnReadings.{Spot, column_at, field, items_at, number_at}
 use Rattle.block_columns.proofs.Basics.{same_read}

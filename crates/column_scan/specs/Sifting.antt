@@ -5,7 +5,7 @@ use Rattle.span_types.specs.declared.ids.TraceId.{TraceId}
 use Rattle.span_types.specs.declared.spans.Row.{Row}
 use Rattle.span_types.specs.declared.spans.Span.{Span}
 use Rattle.stripe_glances.specs.declared.glances.Glance.{Glance}
-use Rattle.stripe_traces.specs.Wanted.{last_trace}
+use Rattle.stripe_skims.specs.Wanted.{last_trace}
 use Rattle.traceql_syntax.specs.declared.field.FieldExpr.{FieldExpr}
 use Rattle.traceql_syntax.specs.Trees.{Tree, tree}
 use Rattle.traceql_types.specs.declared.checked.Checked.{Checked}

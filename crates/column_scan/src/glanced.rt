@@ -6,7 +6,7 @@ ghost use Rattle.span_types.specs.declared.spans.Row.{Row};
 ghost use Rattle.span_types.specs.declared.spans.Span.{Span};
 ghost use Rattle.block_stripes.specs.StripeReadings.{stripe_at};
 ghost use Rattle.stripe_glances.specs.Glances.{IsGlance, TellsIfRead};
-ghost use Rattle.stripe_traces.specs.Wanted.{last_trace};
+ghost use Rattle.stripe_skims.specs.Wanted.{last_trace};
 ghost use Rattle.column_scan.specs.Candidates.{HaveLatest, spans_of};
 ghost use Rattle.column_scan.specs.Sieves.{meets_members, sifted_picks};
 ghost use Rattle.column_scan.specs.Sifting.{HasColumns, HasRows};

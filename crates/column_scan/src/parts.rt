@@ -9,7 +9,7 @@ ghost use Rattle.block_read.specs.Files.{part_of};
 ghost use Rattle.block_read.specs.Lookups.{IsInFile};
 ghost use Rattle.block_read.specs.PageReads.{OnlyReads};
 ghost use Rattle.stripe_glances.specs.Glances.{IsGlance};
-ghost use Rattle.stripe_traces.specs.Wanted.{last_trace};
+ghost use Rattle.stripe_skims.specs.Wanted.{last_trace};
 ghost use Rattle.column_scan.specs.Candidates.{HaveLatest, spans_of};
 ghost use Rattle.column_scan.specs.Scans.{FindsFit, may_scan, meets, scanned_pages};
 ghost use Rattle.column_scan.specs.Sieves.{sifted_picks};

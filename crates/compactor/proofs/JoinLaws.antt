@@ -17,7 +17,7 @@ use Rattle.block_build.specs.Built.{IsBlockOf}
 use Rattle.block_build.specs.declared.builder.Builder.{Builder}
 use Rattle.block_build.specs.declared.building.BuiltBlock.{BuiltBlock}
 use Rattle.block_build.specs.Builders.{HasForm, Takes}
-use Rattle.block_cursor.specs.Wholes.{AreFrom, BeginsWith, TakesFirst}
+use Rattle.block_read.specs.Wholes.{AreFrom, BeginsWith, TakesFirst}
 use Rattle.compactor.specs.Joining.{IsJoining, IsLeast, IsMoved, IsTaking, WantsOther, rows_of_others}
 use Rattle.block_build.proofs.TraceByTrace.{Apart, beside, is_below, is_same, map_all, through, trace_cmp_total}
 use Rattle.compactor.proofs.ByTrace.{alike_by_trace}

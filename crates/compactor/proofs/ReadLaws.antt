@@ -3,9 +3,9 @@ use Rattle.std.proofs.Common.{◌≡◌, ℕ, ◌+◌, ◌-◌, ◌*◌, ◌^◌
 use Rattle.std.specs.Prelude.{IsTrue, Some}
 use Rattle.std.proofs.lemmas.List.{length_push, take_more}
 use Rattle.span_types.specs.declared.spans.Row.{Row}
-use Rattle.span_fields.specs.Breaks.{Fails}
-use Rattle.span_fields.specs.declared.breaks.Break.{Break}
-use Rattle.span_fields.specs.declared.breaks.Break.TheVariants as breaks
+use Rattle.byte_fields.specs.Breaks.{Fails}
+use Rattle.byte_fields.specs.declared.breaks.Break.{Break}
+use Rattle.byte_fields.specs.declared.breaks.Break.TheVariants as breaks
 use Rattle.block_info.specs.InfoParts.{InfoParts}
 use Rattle.block_format.specs.declared.header.Header.{Header}
 use Rattle.block_format.specs.Blocks.{BlockHasHeader, BlockHolds}

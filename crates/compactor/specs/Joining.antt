@@ -4,7 +4,7 @@ use Rattle.span_types.specs.First.{IsFirstOf}
 use Rattle.span_types.specs.declared.ids.TraceId.{TraceId}
 use Rattle.span_types.specs.declared.spans.Row.{Row}
 use Rattle.rows_by_trace.specs.Traces.{is_of_trace, rows_of_trace}
-use Rattle.block_cursor.specs.Wholes.{AreFrom}
+use Rattle.block_read.specs.Wholes.{AreFrom}
 use Rattle.block_build.specs.declared.builder.Builder.{Builder}
 use Rattle.block_build.specs.Builders.{HasForm, Takes}
 use Rattle.block_format.specs.Blocks.{form_of_rows}

@@ -10,8 +10,8 @@ ghost use Rattle.compactor.specs.Phases.{relabelled};
 
 use crate::joining::join_in_form;
 use block_build::BuiltBlock;
-use block_cursor::ReadBlock;
 use block_info::{BlockInfo, SharedInfo};
+use block_read::ReadBlock;
 use span_types::{Bytes, Memory};
 use std::alloc::Global;
 

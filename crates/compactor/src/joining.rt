@@ -7,12 +7,12 @@ ghost use Rattle.span_types.specs.declared.spans.Row.{Row};
 ghost use Rattle.rows_by_trace.specs.Traces.{rows_of_trace};
 ghost use Rattle.block_build.specs.Built.{IsBlockOf};
 ghost use Rattle.block_build.specs.Builders.{HasForm, Takes};
-ghost use Rattle.block_cursor.specs.Wholes.{AreFrom, BeginsWith};
+ghost use Rattle.block_read.specs.Wholes.{AreFrom, BeginsWith};
 ghost use Rattle.compactor.specs.Joining.{IsLeast, IsMoved, WantsOther, rows_of_others};
 
 use crate::merge::{RowLists, merge_rows};
 use block_build::{Builder, BuiltBlock};
-use block_cursor::{ReadBlock, RowsLeft};
+use block_read::{ReadBlock, RowsLeft};
 use span_types::{Memory, Row, Rows, Seq, TraceId};
 use std::alloc::Global;
 

@@ -1,7 +1,7 @@
 //! The blocks that a compaction joins, as they are read page by page.
 
 ghost use Rattle.std.specs.Prelude.{◌≡◌, ◌⊎◌, ◌+◌, ◌^◌, ◌++◌, [], ◌∷◌, ◌<◌, ◌≤◌, IfOk, drop, length};
-ghost use Rattle.span_fields.specs.Breaks.{Answers};
+ghost use Rattle.byte_fields.specs.Breaks.{Answers};
 ghost use Rattle.block_format.specs.Blocks.{BlockHolds};
 ghost use Rattle.block_read.specs.Answers.{made_of};
 ghost use Rattle.block_read.specs.BlockReadings.{listed_at};
@@ -12,10 +12,10 @@ ghost use Rattle.compactor.specs.Tasks.Task.{Failing, Reading};
 ghost use Rattle.store_state.specs.declared.rounds.Refusal.TheVariants.{Memory};
 
 use crate::task::Phase;
-use block_cursor::{ReadBlock, checked};
 use block_format::a_block_has_rows;
 use block_info::BlockInfo;
-use span_fields::Break;
+use block_read::{ReadBlock, checked};
+use byte_fields::Break;
 use span_types::Bytes;
 use std::alloc::Global;
 use std::mem;

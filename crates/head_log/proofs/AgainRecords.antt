@@ -7,15 +7,15 @@ use Rattle.span_types.specs.declared.spans.Span.{Span}
 use Rattle.byte_fields.specs.Spelling.{fixed64_bytes}
 use Rattle.byte_fields.specs.Reading.{Stand, left, ahead, byte_at, fixed64_at}
 use Rattle.head_log.specs.declared.numbered.NumberedBatch.{NumberedBatch}
-use Rattle.span_fields.specs.Breaks.{in_part}
+use Rattle.byte_fields.specs.Breaks.{in_part}
 use Rattle.head_log.specs.Bodies.{body_bytes}
 use Rattle.head_log.specs.Records.{record_bytes, written, IsShort}
 use Rattle.head_log.specs.Stands.{IsBatchBody, AreBatchBodies, SegmentHolds}
 use Rattle.head_log.specs.Scanning.{body_in, record_at, numbered, more_at, records_at, segment_at}
 use Rattle.head_log.specs.Entries.{entries}
-use Rattle.span_fields.specs.Sound.{IsAny, IsBelow64}
-use Rattle.span_fields.specs.Laws.{read_to}
-use Rattle.span_fields.proofs.Again.{seq, one_byte, again_byte, again_fixed64}
+use Rattle.byte_fields.specs.Sound.{IsAny, IsBelow64}
+use Rattle.byte_fields.specs.Laws.{read_to}
+use Rattle.byte_fields.proofs.Again.{seq, one_byte, again_byte, again_fixed64}
 use Rattle.head_log.proofs.AgainRuns.{body_again}
 
 -- ---- a body in its part of the file

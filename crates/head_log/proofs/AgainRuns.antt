@@ -14,12 +14,12 @@ use Rattle.span_runs.specs.Runs.{in_front, runs, of_one, of_one_resource, of_one
 use Rattle.span_runs.proofs.RunLaws.{run_items, all_of, all_of-runs, AreLinked, AreRuns, AreRuns-runs, origins_equal}
 use Rattle.byte_fields.specs.Spelling.{fixed64_bytes, var_bytes}
 use Rattle.byte_fields.specs.Reading.{Stand, left, ahead, fixed64_at, var_at}
-use Rattle.span_fields.specs.Breaks.{in_part}
-use Rattle.span_fields.specs.Encodings.{list_bytes, resource_bytes, scope_bytes}
-use Rattle.span_fields.specs.Sound.{IsBelow64, IsSoundResource, IsSoundScope}
-use Rattle.span_fields.specs.Decodings.{resource_at, scope_at}
-use Rattle.span_fields.specs.Laws.{read_to, EncodedIsRead}
-use Rattle.span_fields.proofs.Again.{seq, last, items_again, all_items, again_var, again_fixed64, again_resource, again_scope}
+use Rattle.byte_fields.specs.Breaks.{in_part}
+use Rattle.byte_fields.specs.SpanEncodings.{list_bytes, resource_bytes, scope_bytes}
+use Rattle.byte_fields.specs.Sound.{IsBelow64, IsSoundResource, IsSoundScope}
+use Rattle.byte_fields.specs.SpanDecodings.{resource_at, scope_at}
+use Rattle.byte_fields.specs.Laws.{read_to, EncodedIsRead}
+use Rattle.byte_fields.proofs.Again.{seq, last, items_again, all_items, again_var, again_fixed64, again_resource, again_scope}
 use Rattle.head_log.specs.declared.reading.Part.{Part}
 use Rattle.head_log.specs.Bodies.{has_items, is_extended, are_extended, first_field, span_bytes, run_bytes, scopes_bytes, spans_bytes, body_bytes}
 use Rattle.head_log.specs.Sound.{IsSoundSpan, IsSoundBatch}

@@ -7,12 +7,12 @@ use Rattle.span_types.specs.declared.spans.SpanEvent.{SpanEvent}
 use Rattle.span_types.specs.declared.spans.SpanLink.{SpanLink}
 use Rattle.byte_fields.specs.Spelling.{fixed64_bytes, text_bytes}
 use Rattle.byte_fields.specs.Reading.{fixed64_at, text_at}
-use Rattle.span_fields.specs.Breaks.{in_part}
-use Rattle.span_fields.specs.Encodings.{list_bytes, attrs_bytes, trace_bytes, id_bytes, parent_bytes, kind_bytes, status_bytes, event_bytes, link_bytes}
-use Rattle.span_fields.specs.Sound.{IsBelow64, IsAny, IsWord, AreSound, AreSoundAttrs, IsTrace, IsSpanId, IsParent, IsSoundEvent, IsSoundLink}
-use Rattle.span_fields.specs.Decodings.{attrs_at, trace_id_at, span_id_at, parent_at, kind_at, status_at, event_at, link_at, events_at, links_at}
-use Rattle.span_fields.specs.Laws.{read_to, EncodedIsRead}
-use Rattle.span_fields.proofs.Again.{seq, last, again_list, again_fixed64, again_text, again_attrs, again_trace, again_span_id, again_parent, again_kind, again_status, again_event, again_link}
+use Rattle.byte_fields.specs.Breaks.{in_part}
+use Rattle.byte_fields.specs.SpanEncodings.{list_bytes, attrs_bytes, trace_bytes, id_bytes, parent_bytes, kind_bytes, status_bytes, event_bytes, link_bytes}
+use Rattle.byte_fields.specs.Sound.{IsBelow64, IsAny, IsWord, AreSound, AreSoundAttrs, IsTrace, IsSpanId, IsParent, IsSoundEvent, IsSoundLink}
+use Rattle.byte_fields.specs.SpanDecodings.{attrs_at, trace_id_at, span_id_at, parent_at, kind_at, status_at, event_at, link_at, events_at, links_at}
+use Rattle.byte_fields.specs.Laws.{read_to, EncodedIsRead}
+use Rattle.byte_fields.proofs.Again.{seq, last, again_list, again_fixed64, again_text, again_attrs, again_trace, again_span_id, again_parent, again_kind, again_status, again_event, again_link}
 use Rattle.head_log.specs.declared.reading.Part.{Part}
 use Rattle.head_log.specs.Bodies.{extras_bytes, span_bytes}
 use Rattle.head_log.specs.Sound.{IsSoundSpan}

@@ -10,15 +10,15 @@ use Rattle.byte_fields.specs.Spelling.{fixed64_bytes}
 use Rattle.byte_fields.specs.Reading.{Stand, left, AreBytes, IsWithin, ahead, byte_at, fixed64_at}
 use Rattle.byte_fields.proofs.FieldLaws.{passes}
 use Rattle.head_log.specs.declared.numbered.NumberedBatch.{NumberedBatch}
-use Rattle.span_fields.specs.Breaks.{in_part}
-use Rattle.span_fields.specs.Laws.{Took}
+use Rattle.byte_fields.specs.Breaks.{in_part}
+use Rattle.byte_fields.specs.Laws.{Took}
 use Rattle.head_log.specs.Bodies.{body_bytes}
 use Rattle.head_log.specs.Records.{record_bytes, written, IsShort}
 use Rattle.head_log.specs.Sound.{IsSoundBatch}
 use Rattle.head_log.specs.Stands.{IsBatchBody, AreBatchBodies, SegmentHolds}
 use Rattle.head_log.specs.Scanning.{body_at, body_in, record_at, numbered, more_at, records_at, segment_at}
 use Rattle.head_log.specs.Entries.{entries}
-use Rattle.span_fields.proofs.Meant.{bound, same_pair, kept_then, chosen, took, took_none, took_then, meant_byte, meant_fixed64}
+use Rattle.byte_fields.proofs.Meant.{bound, same_pair, kept_then, chosen, took, took_none, took_then, meant_byte, meant_fixed64}
 use Rattle.head_log.proofs.MeantRuns.{meant_body}
 
 -- ---- a body in its part of the file

@@ -15,12 +15,12 @@ use Rattle.span_runs.specs.Runs.{in_front, runs, of_one, of_one_resource, of_one
 use Rattle.span_runs.proofs.RunLaws.{run_items, all_of, AreLinked, AreRuns}
 use Rattle.byte_fields.specs.Spelling.{fixed64_bytes, var_bytes}
 use Rattle.byte_fields.specs.Reading.{Stand, IsWithin, ◌>>=◌, fixed64_at, var_at}
-use Rattle.span_fields.specs.Breaks.{in_part}
-use Rattle.span_fields.specs.Encodings.{list_bytes, resource_bytes, scope_bytes}
-use Rattle.span_fields.specs.Sound.{IsSoundResource, IsSoundScope}
-use Rattle.span_fields.specs.Decodings.{or_break, items_at, resource_at, scope_at}
-use Rattle.span_fields.specs.Laws.{Took, ReadIsEncoded}
-use Rattle.span_fields.proofs.Meant.{bound, same_pair, kept_else, chosen, or_break_ok, took_none, took_then, renamed, items_mean, each_item, meant_fixed64, meant_var, meant_resource, meant_scope}
+use Rattle.byte_fields.specs.Breaks.{in_part}
+use Rattle.byte_fields.specs.SpanEncodings.{list_bytes, resource_bytes, scope_bytes}
+use Rattle.byte_fields.specs.Sound.{IsSoundResource, IsSoundScope}
+use Rattle.byte_fields.specs.SpanDecodings.{or_break, items_at, resource_at, scope_at}
+use Rattle.byte_fields.specs.Laws.{Took, ReadIsEncoded}
+use Rattle.byte_fields.proofs.Meant.{bound, same_pair, kept_else, chosen, or_break_ok, took_none, took_then, renamed, items_mean, each_item, meant_fixed64, meant_var, meant_resource, meant_scope}
 use Rattle.head_log.specs.declared.reading.Part.{Part}
 use Rattle.head_log.specs.Bodies.{is_extended, are_extended, first_field, span_bytes, run_bytes, scopes_bytes, spans_bytes, body_bytes}
 use Rattle.head_log.specs.Sound.{IsSoundSpan, IsSoundBatch}

@@ -10,12 +10,12 @@ use Rattle.span_types.specs.declared.spans.SpanKind.{SpanKind}
 use Rattle.span_types.specs.declared.spans.StatusCode.{StatusCode}
 use Rattle.byte_fields.specs.Spelling.{fixed64_bytes, text_bytes}
 use Rattle.byte_fields.specs.Reading.{fixed64_at, text_at}
-use Rattle.span_fields.specs.Breaks.{in_part}
-use Rattle.span_fields.specs.Encodings.{list_bytes, attrs_bytes, trace_bytes, id_bytes, parent_bytes, kind_bytes, status_bytes, event_bytes, link_bytes}
-use Rattle.span_fields.specs.Sound.{IsBelow64, IsAny, IsWord, AreSound, AreSoundAttrs, IsTrace, IsSpanId, IsParent, IsSoundEvent, IsSoundLink, IsSoundResource, IsSoundScope}
-use Rattle.span_fields.specs.Decodings.{attrs_at, trace_id_at, span_id_at, parent_at, kind_at, status_at, event_at, link_at, events_at, links_at}
-use Rattle.span_fields.specs.Laws.{Got, ReadIsEncoded}
-use Rattle.span_fields.proofs.Meant.{same_pair, took_none, took_then, renamed, step, meant_list, meant_fixed64, meant_text, meant_attrs, meant_trace, meant_span_id, meant_parent, meant_kind, meant_status, meant_event, meant_link}
+use Rattle.byte_fields.specs.Breaks.{in_part}
+use Rattle.byte_fields.specs.SpanEncodings.{list_bytes, attrs_bytes, trace_bytes, id_bytes, parent_bytes, kind_bytes, status_bytes, event_bytes, link_bytes}
+use Rattle.byte_fields.specs.Sound.{IsBelow64, IsAny, IsWord, AreSound, AreSoundAttrs, IsTrace, IsSpanId, IsParent, IsSoundEvent, IsSoundLink, IsSoundResource, IsSoundScope}
+use Rattle.byte_fields.specs.SpanDecodings.{attrs_at, trace_id_at, span_id_at, parent_at, kind_at, status_at, event_at, link_at, events_at, links_at}
+use Rattle.byte_fields.specs.Laws.{Got, ReadIsEncoded}
+use Rattle.byte_fields.proofs.Meant.{same_pair, took_none, took_then, renamed, step, meant_list, meant_fixed64, meant_text, meant_attrs, meant_trace, meant_span_id, meant_parent, meant_kind, meant_status, meant_event, meant_link}
 use Rattle.head_log.specs.declared.reading.Part.{Part}
 use Rattle.head_log.specs.Bodies.{span_bytes}
 use Rattle.head_log.specs.Scanning.{Extras, some_extras_at, extras_at, span_at}

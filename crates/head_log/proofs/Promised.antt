@@ -9,7 +9,7 @@ use Rattle.span_types.specs.Equal.{same_resource, same_scope}
 use Rattle.span_types.specs.EqualLaws.{resource_decides, scope_decides}
 use Rattle.span_runs.specs.Runs.{as_run, of_one, runs}
 use Rattle.span_runs.proofs.RunLaws.{run_items, all_of, all_of-runs, AreRuns-runs, each_linked, EachLinked, origins_equal}
-use Rattle.span_fields.specs.Sound.{AreSound, IsSoundEvent, IsSoundLink, IsSoundResource, IsSoundScope}
+use Rattle.byte_fields.specs.Sound.{AreSound, IsSoundEvent, IsSoundLink, IsSoundResource, IsSoundScope}
 use Rattle.head_log.specs.Bodies.{is_extended, are_extended}
 use Rattle.head_log.specs.Sound.{IsSoundSpan}
 use Rattle.head_log.specs.Written.{AreSoundExtras, IsSoundAlone, IsSoundRun, AreSoundRuns, AreSoundAlone, AreSoundScopes, AreSoundResources}

@@ -3,10 +3,10 @@ use Rattle.std.proofs.Common.{◌≡◌, ℕ, suc, ◌-◌, ◌+◌, ◌<◌, �
 use Rattle.std.proofs.lemmas.Bool.{lt-ltb, ne_eqb, eq-eqb}
 use Rattle.span_types.specs.declared.spans.Span.{Span}
 use Rattle.byte_fields.specs.Reading.{Stand, ◌>>=◌, byte_at}
-use Rattle.span_fields.specs.declared.breaks.Break.{Break}
-use Rattle.span_fields.specs.declared.breaks.Break.TheVariants as breaks
-use Rattle.span_fields.specs.Breaks.{Fails, in_part}
-use Rattle.span_fields.specs.Laws.{read_to}
+use Rattle.byte_fields.specs.declared.breaks.Break.{Break}
+use Rattle.byte_fields.specs.declared.breaks.Break.TheVariants as breaks
+use Rattle.byte_fields.specs.Breaks.{Fails, in_part}
+use Rattle.byte_fields.specs.Laws.{read_to}
 use Rattle.head_log.specs.declared.numbered.NumberedBatch.{NumberedBatch}
 use Rattle.head_log.specs.Scanning.{runs_at, numbered, record_at, more_at, records_at}
 

@@ -7,7 +7,7 @@ use Rattle.span_types.specs.declared.spans.SpanLink.{SpanLink}
 use Rattle.span_types.specs.Equal.{same_resource, same_scope}
 use Rattle.span_runs.specs.Runs.{runs, of_one}
 use Rattle.byte_fields.specs.Spelling.{fixed64_bytes, text_bytes}
-use Rattle.span_fields.specs.Encodings.{list_bytes, attrs_bytes, trace_bytes, id_bytes, parent_bytes, kind_bytes, status_bytes, event_bytes, link_bytes, resource_bytes, scope_bytes}
+use Rattle.byte_fields.specs.SpanEncodings.{list_bytes, attrs_bytes, trace_bytes, id_bytes, parent_bytes, kind_bytes, status_bytes, event_bytes, link_bytes, resource_bytes, scope_bytes}
 
 -- ---- the form
 

@@ -8,8 +8,8 @@ use Rattle.span_types.specs.declared.spans.SpanLink.{SpanLink}
 use Rattle.span_types.specs.declared.limits.TheConstants.{MOST_SPANS}
 use Rattle.span_types.specs.Equal.{same_resource, same_scope}
 use Rattle.byte_fields.specs.Reading.{Stand, ◌>>=◌, byte_at, fixed64_at, var_at, text_at}
-use Rattle.span_fields.specs.Breaks.{in_part}
-use Rattle.span_fields.specs.Decodings.{or_break, items_at, attrs_at, trace_id_at, span_id_at, parent_at, kind_at, status_at, events_at, links_at, resource_at, scope_at}
+use Rattle.byte_fields.specs.Breaks.{in_part}
+use Rattle.byte_fields.specs.SpanDecodings.{or_break, items_at, attrs_at, trace_id_at, span_id_at, parent_at, kind_at, status_at, events_at, links_at, resource_at, scope_at}
 use Rattle.head_log.specs.declared.numbered.NumberedBatch.{NumberedBatch}
 use Rattle.head_log.specs.declared.reading.Part.{Part}
 use Rattle.head_log.specs.Bodies.{are_extended}

@@ -3,7 +3,7 @@ use Rattle.std.specs.Prelude.{Bool, true, false, All, List, ◌∷◌}
 use Rattle.span_types.specs.declared.spans.Span.{Span}
 use Rattle.span_types.specs.Equal.{same_resource, same_scope}
 use Rattle.span_runs.specs.Runs.{runs, of_one}
-use Rattle.span_fields.specs.Sound.{IsBelow64, IsWord, AreSound, AreSoundAttrs, IsTrace, IsSpanId, IsParent, IsSoundEvent, IsSoundLink, IsSoundResource, IsSoundScope}
+use Rattle.byte_fields.specs.Sound.{IsBelow64, IsWord, AreSound, AreSoundAttrs, IsTrace, IsSpanId, IsParent, IsSoundEvent, IsSoundLink, IsSoundResource, IsSoundScope}
 
 -- the events and links of a span, where its body has them
 abbrev pub AreSoundExtras : Bool → Span → Type 0

@@ -2,15 +2,14 @@
 //! scopes. What a run of a resource or of a scope holds stands here in both directions.
 
 ghost use Rattle.std.specs.Prelude.{◌≡◌, ◌<◌, OnOk, OnSome};
-ghost use Rattle.span_fields.specs.Breaks.{Gives};
-ghost use Rattle.span_fields.specs.Decodings.{items_at};
+ghost use Rattle.byte_fields.specs.Breaks.{Gives};
+ghost use Rattle.byte_fields.specs.SpanDecodings.{items_at};
 ghost use Rattle.head_log.specs.Scanning.{all_spans_at, body_at, form_of, run_count_at, span_at, span_count_at, spans_at};
 
 use crate::groups::{Group, put_runs, runs};
 use crate::reading::{Part, span};
 use crate::writing::{are_extended, put_spans};
-use byte_fields::{Reader, Writer};
-use span_fields::{Break, fixed64, var};
+use byte_fields::{Break, Reader, Writer, fixed64, var};
 use span_types::{MOST_SPANS, Memory, Resource, Scope, SharedResource, SharedScope, Span};
 use std::alloc::Global;
 
@@ -111,7 +110,7 @@ impl Group for Resource {
 }
 
 impl Group for Scope {
-    ghost use Rattle.span_fields.specs.Encodings.{list_bytes};
+    ghost use Rattle.byte_fields.specs.SpanEncodings.{list_bytes};
     ghost use Rattle.head_log.specs.Bodies.{span_bytes};
     ghost use Rattle.head_log.specs.Scanning.{scope_spans_at};
     ghost use Rattle.head_log.specs.Written.{AreSoundAlone};

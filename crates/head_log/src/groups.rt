@@ -5,15 +5,14 @@ ghost use Rattle.std.specs.List.{flat_map};
 ghost use Rattle.byte_fields.specs.Reading.{Stand};
 ghost use Rattle.span_types.specs.declared.spans.Span.{Span};
 ghost use Rattle.span_runs.specs.Runs.{as_run, of_one, runs};
-ghost use Rattle.span_fields.specs.Breaks.{Gives};
+ghost use Rattle.byte_fields.specs.Breaks.{Gives};
 ghost use Rattle.head_log.specs.declared.reading.Part.{Part};
 ghost use Rattle.head_log.specs.Bodies.{run_bytes, runs_bytes};
 ghost use Rattle.head_log.specs.Scanning.{last_of, last_passes, run_at, runs_at};
 ghost use Rattle.head_log.specs.Written.{AreSoundRuns, IsSoundRun};
 
 use crate::reading::Part;
-use byte_fields::{Reader, Writer};
-use span_fields::{Break, Decode, Encode};
+use byte_fields::{Break, Decode, Encode, Reader, Writer};
 use span_runs::{Origin, first_run};
 use span_types::{Memory, Span};
 use std::alloc::Global;
@@ -51,7 +50,7 @@ pub trait Group: Origin + Encode + Decode {
 }
 
 /// Adds spans in runs of equal groups, after the count of the runs.
-#[tactic(auto, unfolding(span_fields::specs::Encodings::list_bytes))]
+#[tactic(auto, unfolding(byte_fields::specs::SpanEncodings::list_bytes))]
 pub fn put_runs<G: Group>(out: &mut Writer, extended: bool, spans: &[Span]) -> Result<(), Memory>
     ensures written { OnOk result
         (out.new ≡ out.old

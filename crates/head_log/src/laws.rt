@@ -1,7 +1,7 @@
 //! Theorems about the grammar of segments: which bytes stand for which batches.
 //!
 //! Each function has an empty body: its contract is the statement, and its proof stands in `proofs/laws/`. Nothing
-//! calls them; proofs of `store_core` and `stored_history` cite the lemmas.
+//! calls them; proofs of `store_core` and `store_images` cite the lemmas.
 
 ghost use Rattle.std.specs.Prelude.{◌≡◌, ◌+◌, ◌++◌, ℕ, List, Ok, length};
 ghost use Rattle.span_types.specs.declared.spans.Span.{Span};

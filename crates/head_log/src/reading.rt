@@ -1,11 +1,12 @@
 //! Reading the spans of a body, bytes to spans, field by field.
 
 ghost use Rattle.std.specs.Prelude.{◌≡◌};
-ghost use Rattle.span_fields.specs.Breaks.{Gives};
+ghost use Rattle.byte_fields.specs.Breaks.{Gives};
 ghost use Rattle.head_log.specs.Scanning.{extras_at, some_extras_at, span_at};
 
-use byte_fields::Reader;
-use span_fields::{Break, attrs, fixed64, kind, list, parent, span_id, status, text, trace_id};
+use byte_fields::{
+    Break, Reader, attrs, fixed64, kind, list, parent, span_id, status, text, trace_id,
+};
 use span_types::{Events, Links, SharedResource, SharedScope, Span, TryCopy};
 use std::alloc::Global;
 

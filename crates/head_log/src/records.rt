@@ -2,13 +2,12 @@
 
 ghost use Rattle.std.specs.Prelude.{◌≡◌, ◌≤◌, ◌<◌, [], Ok, IfOk, OnOk, length};
 ghost use Rattle.byte_fields.specs.Reading.{AreBytes};
-ghost use Rattle.span_fields.specs.Breaks.{Answers, Gives};
+ghost use Rattle.byte_fields.specs.Breaks.{Answers, Gives};
 ghost use Rattle.head_log.specs.Scanning.{body_in, record_at, records_at, segment_at};
 
 use crate::bodies::body;
 use crate::numbered::NumberedBatch;
-use byte_fields::Reader;
-use span_fields::{Break, byte, fixed64};
+use byte_fields::{Break, Reader, byte, fixed64};
 use span_types::{Batch, Span, Spans};
 use std::alloc::Global;
 

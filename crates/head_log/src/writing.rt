@@ -2,15 +2,15 @@
 
 ghost use Rattle.std.specs.Prelude.{◌≡◌, ◌++◌, OnOk};
 ghost use Rattle.std.specs.List.{flat_map};
-ghost use Rattle.span_fields.specs.Encodings.{list_bytes};
+ghost use Rattle.byte_fields.specs.SpanEncodings.{list_bytes};
 ghost use Rattle.head_log.specs.Bodies.{are_extended, body_bytes, extras_bytes, first_field, is_extended, span_bytes};
 ghost use Rattle.head_log.specs.Written.{AreSoundAlone, AreSoundExtras, AreSoundResources, IsSoundAlone};
 
 use crate::bodies::EXTENDED;
 use crate::groups::put_runs;
-use byte_fields::Writer;
-use span_fields::{
-    put_attrs, put_id, put_kind, put_list, put_moment, put_parent, put_status, put_text, put_trace,
+use byte_fields::{
+    Writer, put_attrs, put_id, put_kind, put_list, put_moment, put_parent, put_status, put_text,
+    put_trace,
 };
 use span_types::{Memory, Resource, Span};
 
@@ -51,7 +51,7 @@ fn first_field(extended: bool, number: u64) -> u64
 }
 
 /// Adds spans after their count.
-#[tactic(auto, unfolding(span_fields::specs::Encodings::list_bytes))]
+#[tactic(auto, unfolding(byte_fields::specs::SpanEncodings::list_bytes))]
 pub fn put_spans(out: &mut Writer, extended: bool, spans: &[Span]) -> Result<(), Memory>
     ensures written { OnOk result
         (out.new ≡ out.old ++ list_bytes (span_bytes extended) spans.now) }

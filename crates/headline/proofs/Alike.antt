@@ -12,13 +12,13 @@ use Rattle.session_text.specs.declared.request.Request.TheVariants as request
 use Rattle.session_text.specs.Items.{Item}
 use Rattle.spanset_eval.specs.declared.results.TraceResult.{TraceResult}
 use Rattle.store_reopen.specs.Through.{Pending, StoodAmid}
-use Rattle.store_entries.specs.declared.entry.Entry.{Entry}
+use Rattle.store_model.specs.declared.entry.Entry.{Entry}
 use Rattle.store_images.specs.Stored.{ImageStandsFor, KeepsStored, MayStandFor}
 use Rattle.store_model.specs.History.{History, count_of, grown, history_rows, up_to, with_entry}
 use Rattle.store_model.proofs.HistoryLaws.{count_grown}
-use Rattle.stored_history.specs.Alike.{AreAlike}
-use Rattle.stored_history.proofs.OneHistory.{alike, stands_for_alike}
-use Rattle.stored_history.proofs.StayAlike.{same_firsts, stay_alike}
+use Rattle.store_images.specs.Alike.{AreAlike}
+use Rattle.store_images.proofs.OneHistory.{alike, stands_for_alike}
+use Rattle.store_images.proofs.StayAlike.{same_firsts, stay_alike}
 use Rattle.session_meaning.specs.Act.{Act}
 use Rattle.session_meaning.specs.Act.Act.{Ask, Reopen, Unread}
 use Rattle.session_meaning.specs.At.{history_of}

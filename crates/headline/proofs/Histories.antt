@@ -3,13 +3,13 @@ use Rattle.std.proofs.Common.{◌≡◌, ℕ, ◌+◌, ◌-◌, ◌≤◌, ◌==
 use Rattle.std.proofs.lemmas.List.{take_all}
 use Rattle.session_text.specs.declared.reply.Reply.{Reply}
 use Rattle.session_text.specs.declared.reply.Reply.TheVariants.{Reopened}
-use Rattle.store_entries.specs.declared.entry.Entry.{Entry}
+use Rattle.store_model.specs.declared.entry.Entry.{Entry}
 use Rattle.store_model.specs.History.{History, count_of, grown, up_to}
 use Rattle.store_model.proofs.HistoryLaws.{count_grown}
 use Rattle.store_model.proofs.KeepsHolds.{grown_up}
 use Rattle.store_reopen.specs.Through.{Pending, pending_now}
-use Rattle.stored_history.specs.Alike.{AreAlike}
-use Rattle.stored_history.proofs.StayAlike.{stay_alike}
+use Rattle.store_images.specs.Alike.{AreAlike}
+use Rattle.store_images.proofs.StayAlike.{stay_alike}
 use Rattle.session_meaning.specs.Act.{Act}
 use Rattle.session_meaning.specs.Act.Act.{Ask, Reopen, Unread}
 use Rattle.session_meaning.specs.Kept.{Kept, begun_with, found_again, kept_after, kept_after_all, were_unsure}

@@ -12,7 +12,7 @@ use Rattle.store_core.specs.Port.{port_of}
 use Rattle.store_core.specs.Stood.{StoodFor}
 use Rattle.store_core.specs.declared.store.Core.{Core}
 use Rattle.store_core.proofs.Past.{stands_since_now}
-use Rattle.store_entries.specs.declared.entry.Entry.{Entry}
+use Rattle.store_model.specs.declared.entry.Entry.{Entry}
 use Rattle.store_images.specs.Stored.{ImageStandsFor, KeepsStored, MayStandFor}
 use Rattle.store_model.specs.History.{History, count_of, grown, up_to}
 use Rattle.store_model.specs.Step.{Machine}

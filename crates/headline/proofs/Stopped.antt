@@ -8,7 +8,7 @@ use Rattle.session_text.specs.declared.reply.Reply.{Reply}
 use Rattle.session_text.specs.declared.reply.Reply.TheVariants.{Refused}
 use Rattle.session_text.specs.declared.request.Request.TheVariants as request
 use Rattle.session_text.specs.Items.{Item}
-use Rattle.store_entries.specs.declared.entry.Entry.{Entry}
+use Rattle.store_model.specs.declared.entry.Entry.{Entry}
 use Rattle.store_model.specs.Choice.{choice}
 use Rattle.store_model.specs.Event.{Event as event, Reply as reply, Refusal as cause}
 use Rattle.store_model.specs.Event.Event.{BeginCompact, BeginFlush, Cut, CutAll, Push, Reclaim}

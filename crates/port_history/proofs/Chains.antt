@@ -2,7 +2,7 @@
 use Rattle.std.proofs.Common.{◌≡◌, ◌≤◌, ℕ, List, [], ◌∷◌, ◌++◌, Option, Some, None, map, refl, sym, ◌∙◌, ap, subst, arith}
 use Rattle.std.proofs.lemmas.List.{append-nil, append_assoc}
 use Rattle.std.proofs.lemmas.List.Elements.{filter-append}
-use Rattle.store_entries.specs.declared.entry.Entry.{Entry as Added}
+use Rattle.store_model.specs.declared.entry.Entry.{Entry as Added}
 use Rattle.store_model.specs.History.{History, grown, with_entry}
 use Rattle.store_model.specs.Holds.{Hold, holds_after}
 use Rattle.store_model.specs.State.{is_among}

@@ -1,6 +1,6 @@
 -- Calls of several seats on one port, in the one order in which they were made.
 use Rattle.std.specs.Prelude.{◌≡◌, ◌≤◌, ℕ, List, [], ◌∷◌, filter, Option, None, Some}
-use Rattle.store_entries.specs.declared.entry.Entry.{Entry as Added}
+use Rattle.store_model.specs.declared.entry.Entry.{Entry as Added}
 use Rattle.store_model.specs.Event.{Event, Reply}
 use Rattle.store_model.specs.History.{History}
 use Rattle.store_model.specs.Holds.{Hold, holds_after}

@@ -11,7 +11,7 @@ use Rattle.rows_by_trace.specs.Traces.{is_of_trace, rows_of_trace}
 use Rattle.column_scan.specs.Candidates.{Ascend}
 use Rattle.column_scan.specs.declared.picks.Pick.{Pick}
 use Rattle.search_answer.specs.Keeping.{BestParts}
-use Rattle.stripe_traces.specs.Wanted.{is_one_of, rows_of_traces}
+use Rattle.stripe_skims.specs.Wanted.{is_one_of, rows_of_traces}
 use Rattle.query_fanout.specs.Searching.{TookTheirs, TookWith}
 use Rattle.query_fanout.specs.Taking.{AreApart, TakesEach, open_picks, traces_of}
 use Rattle.query_fanout.specs.declared.searching.Asked.{Asked}

@@ -23,8 +23,8 @@ use Rattle.rows_by_trace.proofs.TraceLaws.{trace_of_firsts}
 use Rattle.block_info.specs.InfoParts.{InfoParts}
 use Rattle.block_read.specs.Answers.{RoseAtMost}
 use Rattle.block_read.specs.Lookups.{most_pages}
-use Rattle.stripe_traces.specs.Wanted.{AreInOrder, is_one_of, rows_of_traces}
-use Rattle.block_traces.specs.Batches.{pages_for_each}
+use Rattle.stripe_skims.specs.Wanted.{AreInOrder, is_one_of, rows_of_traces}
+use Rattle.block_read.specs.Batches.{pages_for_each}
 use Rattle.search_answer.proofs.Fronts.{same_trace}
 use Rattle.search_answer.specs.Answers.{IsResult}
 use Rattle.search_answer.specs.Keeping.{BestParts, may_come}

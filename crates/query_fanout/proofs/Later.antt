@@ -2,7 +2,7 @@
 use Rattle.std.proofs.Common.{◌≡◌, ℕ, ◌+◌, ◌-◌, ◌≤◌, List, [], ◌∷◌, ◌++◌, Option, None, Some, Result, Ok, Err, length, length-append, append-nil, append_assoc, refl, sym, ◌∙◌, ap, subst, arith}
 use Rattle.std.proofs.lemmas.List.{take_all}
 use Rattle.span_types.specs.declared.spans.Row.{Row}
-use Rattle.store_entries.specs.declared.entry.Entry.{Entry}
+use Rattle.store_model.specs.declared.entry.Entry.{Entry}
 use Rattle.store_model.specs.Event.{Event as event, Reply as reply, LookParts}
 use Rattle.store_model.specs.History.{History, count_of, grown, history_rows, up_to, with_entry}
 use Rattle.store_model.specs.Told.{added_entry}

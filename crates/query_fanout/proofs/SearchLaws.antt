@@ -9,7 +9,7 @@ use Rattle.span_types.specs.declared.spans.Row.{Row}
 use Rattle.span_types.proofs.FirstLaws.{firsts_alike}
 use Rattle.block_info.specs.InfoParts.{InfoParts}
 use Rattle.block_read.specs.Answers.{RoseAtMost}
-use Rattle.stripe_traces.specs.Wanted.{is_one_of, rows_of_traces}
+use Rattle.stripe_skims.specs.Wanted.{is_one_of, rows_of_traces}
 use Rattle.column_scan.specs.Candidates.{Ascend, IsCovered, pick_of, spans_of}
 use Rattle.column_scan.specs.Sieves.{AreSifted, SieveParts, is_sifted, sifted_picks}
 use Rattle.column_scan.specs.declared.hints.Hint.{Hint}

@@ -8,7 +8,7 @@ use Rattle.std.proofs.lemmas.List.Sums.{sum_by-cons}
 use Rattle.span_types.specs.Orders.{trace_cmp}
 use Rattle.span_types.specs.declared.ids.TraceId.{TraceId}
 use Rattle.span_types.specs.declared.spans.Span.{Span}
-use Rattle.stripe_traces.specs.Wanted.{AreInOrder}
+use Rattle.stripe_skims.specs.Wanted.{AreInOrder}
 use Rattle.search_answer.proofs.Fronts.{trace_cmp_total}
 use Rattle.column_scan.specs.Candidates.{AreCandidates, ArePicks, Ascend, IsCovered, hinted_picks, is_hinted, pick_of}
 use Rattle.column_scan.specs.Sieves.{SieveParts, is_sifted, meets_members, sifted_picks}

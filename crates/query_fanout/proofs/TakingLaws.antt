@@ -16,7 +16,7 @@ use Rattle.search_answer.specs.Keeping.{BestParts, may_come}
 use Rattle.search_answer.proofs.Fronts.{same_trace, trace_cmp_total}
 use Rattle.search_answer.proofs.PickedLaws.{other_rows}
 use Rattle.column_scan.specs.declared.picks.Pick.{Pick}
-use Rattle.stripe_traces.specs.Wanted.{is_one_of, rows_of_traces}
+use Rattle.stripe_skims.specs.Wanted.{is_one_of, rows_of_traces}
 use Rattle.query_fanout.specs.declared.searching.Asked.{Asked}
 use Rattle.query_fanout.specs.Taking.{Answered, AreApart, Takes, TakesEach, TakesMore, TakesMoreRead, open_picks, traces_of}
 

@@ -41,7 +41,7 @@ use Rattle.column_scan.specs.Sieves.{AnsweredIsPicked, is_sifted, sifted_picks}
 use Rattle.column_scan.specs.declared.picks.Pick.{Pick}
 use Rattle.column_scan.proofs.Latest.{contains_filter}
 use Rattle.column_scan.proofs.Latest.{itself as latest_themselves}
-use Rattle.stripe_traces.specs.Wanted.{is_one_of}
+use Rattle.stripe_skims.specs.Wanted.{is_one_of}
 use Rattle.query_fanout.specs.declared.searching.Asked.{Asked}
 use Rattle.query_fanout.specs.Taking.{Answered, AnswersSearch, AreApart, AreCovered, Takes, TakesEach, TakenAnswerTheWhole, asked_sieve, no_best, open_picks, traces_of}
 use Rattle.query_fanout.proofs.TakingLaws.{all_among, answered_there, kept_pick, no_rows, not_both, not_true, of_either, of_first, of_second, one_pick, open_is_there, or_left, pick_there}

@@ -5,7 +5,7 @@ use Rattle.std.proofs.lemmas.List.Elements.{All-append, All-contains_itself, All
 use Rattle.span_types.specs.declared.ids.TraceId.{TraceId}
 use Rattle.span_types.specs.declared.spans.Row.{Row}
 use Rattle.rows_by_trace.specs.Traces.{is_of_trace, rows_of_trace}
-use Rattle.stripe_traces.specs.Wanted.{is_one_of, rows_of_traces}
+use Rattle.stripe_skims.specs.Wanted.{is_one_of, rows_of_traces}
 use Rattle.column_scan.specs.Candidates.{HaveLatest, IsCovered, spans_of}
 use Rattle.column_scan.specs.Sieves.{SieveParts, sifted_picks}
 use Rattle.column_scan.specs.declared.picks.Pick.{Pick}

@@ -9,7 +9,7 @@ use Rattle.block_read.specs.PageReads.{PageRead}
 use Rattle.block_read.specs.declared.error.ReadError.{ReadError}
 use Rattle.block_read.specs.declared.error.ReadError.TheVariants as unread
 use Rattle.rows_by_trace.specs.Traces.{rows_of_trace}
-use Rattle.stripe_traces.specs.Wanted.{rows_of_traces}
+use Rattle.stripe_skims.specs.Wanted.{rows_of_traces}
 use Rattle.store_model.specs.Event.Event.{ReadPage}
 use Rattle.store_model.specs.Event.{Reply as reply, Refusal as cause}
 use Rattle.store_model.specs.Holds.{Hold, files_of}

@@ -5,7 +5,7 @@ use Rattle.std.specs.List.Sorted.{IsPermutation}
 use Rattle.span_types.specs.declared.ids.TraceId.{TraceId}
 use Rattle.span_types.specs.declared.spans.Row.{Row}
 use Rattle.rows_by_trace.specs.Traces.{rows_of_trace}
-use Rattle.stripe_traces.specs.Wanted.{rows_of_traces}
+use Rattle.stripe_skims.specs.Wanted.{rows_of_traces}
 use Rattle.search_answer.specs.Keeping.{BestParts}
 use Rattle.column_scan.specs.declared.picks.Pick.{Pick}
 use Rattle.query_fanout.specs.Taking.{Answered, TakesEach, open_picks, traces_of}

@@ -14,7 +14,7 @@ use Rattle.column_scan.specs.Candidates.{hint_of}
 use Rattle.column_scan.specs.Sieves.{SieveParts, is_sifted, sieve_of}
 use Rattle.column_scan.specs.declared.hints.Hint.{Hint}
 use Rattle.column_scan.specs.declared.picks.Pick.{Pick}
-use Rattle.stripe_traces.specs.Wanted.{is_one_of, rows_of_traces}
+use Rattle.stripe_skims.specs.Wanted.{is_one_of, rows_of_traces}
 use Rattle.query_fanout.specs.declared.searching.Asked.{Asked}
 
 -- what a search answers over these first occurrences

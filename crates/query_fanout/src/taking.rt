@@ -5,7 +5,7 @@ ghost use Rattle.std.specs.List.{flat_map};
 ghost use Rattle.span_types.specs.declared.spans.Row.{Row as AnyRow};
 ghost use Rattle.store_state.specs.Given.{look_of};
 ghost use Rattle.store_state.specs.Meaning.{IsOpen};
-ghost use Rattle.stripe_traces.specs.Wanted.{AreInOrder};
+ghost use Rattle.stripe_skims.specs.Wanted.{AreInOrder};
 ghost use Rattle.column_scan.specs.Candidates.{Ascend};
 ghost use Rattle.query_fanout.specs.Reading.{AreOfTraces, AtMost, BlocksRead, look_ups};
 ghost use Rattle.query_fanout.specs.Searching.{AnswersTheirs, AnswersWith, TakenTheirs, TakenWith, TakesTheirs, TakesWith, TookTheirs, TookWith};
@@ -18,8 +18,7 @@ use crate::trace::joined_firsts;
 use crate::turns::{in_turns, two_parts};
 use crate::{Asked, QueryError};
 use block_info::BlockInfo;
-use block_read::{Pages, ReadError};
-use block_traces::rows_of_traces;
+use block_read::{Pages, ReadError, rows_of_traces};
 use column_scan::Pick;
 use search_answer::{Best, Bounds, answer};
 use span_types::{Memory, Row, Rows, TraceId};
@@ -32,8 +31,8 @@ struct Traces<'i>(&'i [TraceId]);
 
 impl<'i> OfBlock for Traces<'i> {
     ghost use Rattle.std.specs.Prelude.{refl};
-    ghost use Rattle.stripe_traces.specs.Wanted.{AreInOrder};
-    ghost use Rattle.block_traces.specs.Batches.{pages_for_each};
+    ghost use Rattle.stripe_skims.specs.Wanted.{AreInOrder};
+    ghost use Rattle.block_read.specs.Batches.{pages_for_each};
     ghost use Rattle.query_fanout.specs.Reading.{AreOfTraces, AreTheirs};
     ghost use Rattle.query_fanout.specs.Joined.{of_traces_both, theirs_both};
 

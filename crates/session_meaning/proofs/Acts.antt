@@ -6,7 +6,7 @@ use Rattle.disk_model.specs.Images.{Image}
 use Rattle.session_text.specs.declared.reply.Reply.{Reply}
 use Rattle.session_text.specs.declared.reply.Reply.TheVariants.{Refused, Reopened}
 use Rattle.session_text.specs.Items.{Item}
-use Rattle.store_entries.specs.declared.entry.Entry.{Entry}
+use Rattle.store_model.specs.declared.entry.Entry.{Entry}
 use Rattle.store_images.specs.Stored.{MayStandFor}
 use Rattle.store_model.specs.History.{History, count_of, grown}
 use Rattle.store_model.specs.Step.{Machine}

@@ -2,7 +2,7 @@
 use Rattle.std.proofs.Common.{◌≡◌, ◌⊎◌, inl, inr, ℕ, ◌≤◌, List, Option, Some, None, arith, option_map, refl, sym, ◌∙◌, ap, subst}
 use Rattle.std.specs.Prelude.{⊤, true}
 use Rattle.span_types.specs.Faults.{Rose}
-use Rattle.store_entries.specs.declared.entry.Entry.{Entry}
+use Rattle.store_model.specs.declared.entry.Entry.{Entry}
 use Rattle.store_model.specs.Choice.{choice}
 use Rattle.store_model.specs.Event.{Event as event, Reply as reply, Refusal as why, FlushParts, CompactParts}
 use Rattle.store_model.specs.Event.Event.{BeginCompact, BeginFlush, Push, ReadPage, WritePiece}

@@ -3,11 +3,11 @@ use Rattle.std.proofs.Common.{◌≡◌, ◌⊎◌, inl, inr, ◌∙◌, ℕ, ze
 use Rattle.std.specs.List.{Contains}
 use Rattle.std.proofs.lemmas.List.{take_all}
 use Rattle.client_run.specs.CoreRuns.{IsCounted, is_fault}
-use Rattle.client_scripts.specs.Numbers.{AreInARow, given_by, given_numbers}
-use Rattle.client_scripts.specs.Scripts as by_script
-use Rattle.client_scripts.specs.Served.{AllTold, AreServed}
-use Rattle.client_scripts.specs.Told.{AreTold, IsToldOf, TellsFrom, told_length}
-use Rattle.client_scripts.specs.declared.script.Answered.{Answered}
+use Rattle.client_run.specs.Numbers.{AreInARow, given_by, given_numbers}
+use Rattle.client_run.specs.Scripts as by_script
+use Rattle.client_run.specs.Served.{AllTold, AreServed}
+use Rattle.client_run.specs.Told.{AreTold, IsToldOf, TellsFrom, told_length}
+use Rattle.client_run.specs.declared.script.Answered.{Answered}
 use Rattle.client_run.specs.Answers.{IsMetricsTold, IsSearchTold, asked_of, counted_of, pushed_reply, trace_reply}
 use Rattle.io_edges.specs.Lines.{taken_limit}
 use Rattle.io_edges.specs.Reader.{TakesBytes}
@@ -29,7 +29,7 @@ use Rattle.session_text.specs.declared.request.Request.TheVariants as request
 use Rattle.session_text.specs.declared.request.Search.{Search}
 use Rattle.span_types.specs.declared.ids.TraceId.{TraceId}
 use Rattle.session_text.specs.Items.{Item}
-use Rattle.store_entries.specs.declared.entry.Entry.{Entry as Added}
+use Rattle.store_model.specs.declared.entry.Entry.{Entry as Added}
 use Rattle.store_model.specs.Event.{Event as event, Reply as told}
 use Rattle.store_model.specs.History.{History, count_of, push_of, up_to, with_entry}
 use Rattle.store_model.specs.Laws.{Agrees}
@@ -37,7 +37,7 @@ use Rattle.store_model.specs.State.{is_among}
 use Rattle.store_model.specs.Step.{Machine, Step}
 use Rattle.store_model.specs.Told.{TellsLength, added_entry, asked_entry, history_after}
 use Rattle.store_model.proofs.TellsHistory.{step_tells}
-use Rattle.client_scripts.proofs.ToldLemmas.{grown_count}
+use Rattle.client_run.proofs.ToldLemmas.{grown_count}
 use Rattle.store_state.specs.Made.{Call, call}
 use Rattle.store_state.specs.Replies.{push_reply}
 use Rattle.store_state.specs.declared.errors.PushError.{PushError}

@@ -9,7 +9,7 @@ use Rattle.disk_model.specs.declared.disk.Device.{Ghosts}
 use Rattle.session_text.specs.declared.reply.Reply.{Reply}
 use Rattle.session_text.specs.declared.reply.Reply.TheVariants.{Refused, Reopened}
 use Rattle.session_text.specs.Items.{Item}
-use Rattle.store_entries.specs.declared.entry.Entry.{Entry}
+use Rattle.store_model.specs.declared.entry.Entry.{Entry}
 use Rattle.store_images.specs.Stored.{ImageStandsFor, ImageStores, IsSoundImage, IsTidy, KeepsStored, MayStandFor}
 use Rattle.store_images.specs.Stored.ImageStores.{filled, vacant}
 use Rattle.store_model.specs.History.{History, count_of, grown}

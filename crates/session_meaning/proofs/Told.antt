@@ -6,7 +6,7 @@ use Rattle.session_text.specs.declared.reply.Reply.{Reply}
 use Rattle.session_text.specs.declared.reply.Reply.TheVariants.{Compacted, Cut, CutAll, Flushed, Measured, NothingCompacted, NothingFlushed, Pushed, Refused, Searched, Traced}
 use Rattle.session_text.specs.declared.request.Request.TheVariants as request
 use Rattle.session_text.specs.Items.{Item}
-use Rattle.store_entries.specs.declared.entry.Entry.{Entry}
+use Rattle.store_model.specs.declared.entry.Entry.{Entry}
 use Rattle.store_model.specs.Event.{Event as event, Reply as reply}
 use Rattle.store_model.specs.Event.Event.{BeginCompact, BeginFlush}
 use Rattle.store_model.specs.History.{History, count_of, grown}

@@ -2,7 +2,7 @@
 use Rattle.std.specs.Prelude.{Bool, true, false, ℕ, ◌==◌, List, [], ◌∷◌, ◌++◌, Option, None, Some, if◌then◌else◌}
 use Rattle.session_text.specs.declared.reply.Reply.{Reply}
 use Rattle.session_text.specs.declared.reply.Reply.TheVariants.{Reopened}
-use Rattle.store_entries.specs.declared.entry.Entry.{Entry}
+use Rattle.store_model.specs.declared.entry.Entry.{Entry}
 use Rattle.store_model.specs.History.{History, count_of, grown}
 use Rattle.store_reopen.specs.Through.{Pending, pending_now}
 use Rattle.session_meaning.specs.Act.{Act}

@@ -1,6 +1,6 @@
 -- Where a session stands between two lines.
 use Rattle.std.specs.Prelude.{Bool, true, List, [], ◌++◌, Option, None}
-use Rattle.store_entries.specs.declared.entry.Entry.{Entry}
+use Rattle.store_model.specs.declared.entry.Entry.{Entry}
 use Rattle.store_model.specs.History.{History}
 use Rattle.store_reopen.specs.Through.{Pending, pending_now}
 use Rattle.session_meaning.specs.At.{At, history_of}

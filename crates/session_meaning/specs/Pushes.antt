@@ -5,7 +5,7 @@ use Rattle.session_text.specs.declared.refusal.Refusal.TheVariants.{DiskFault}
 use Rattle.session_text.specs.declared.reply.Reply.{Reply}
 use Rattle.session_text.specs.declared.reply.Reply.TheVariants.{Pushed, Traced, Searched, Measured, Refused}
 use Rattle.session_text.specs.Items.{Item}
-use Rattle.store_entries.specs.declared.entry.Entry.{Entry}
+use Rattle.store_model.specs.declared.entry.Entry.{Entry}
 use Rattle.store_model.specs.History.{count_of, push_of}
 use Rattle.store_model.specs.State.{held_of}
 use Rattle.store_model.specs.Step.{Machine}

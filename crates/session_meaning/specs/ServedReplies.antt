@@ -1,8 +1,8 @@
 -- Words for the replies to several clients.
 use Rattle.std.specs.Prelude.{◌≡◌, ◌⊎◌, ⊤, ℕ, ◌≤◌, max, List, [], ◌∷◌, Ok, Err}
 use Rattle.client_run.specs.Answers.{asked_of, counted_of}
-use Rattle.client_scripts.specs.Told.{told_length}
-use Rattle.client_scripts.specs.declared.script.Answered.{Answered}
+use Rattle.client_run.specs.Told.{told_length}
+use Rattle.client_run.specs.declared.script.Answered.{Answered}
 use Rattle.session_text.specs.declared.reply.Reply.{Reply}
 use Rattle.session_text.specs.declared.reply.Reply.TheVariants.{Measured, Searched, Traced}
 use Rattle.session_text.specs.declared.request.Request.{Request}

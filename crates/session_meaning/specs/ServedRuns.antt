@@ -3,7 +3,7 @@ use Rattle.std.specs.Prelude.{◌≡◌, ◌⊎◌, ℕ, ◌*◌, ◌≤◌, ◌
 use Rattle.std.specs.Io.KnownBytes.{Appends}
 use Rattle.std.specs.List.{list_any}
 use Rattle.client_run.specs.CoreRuns.{unsure_after_calls}
-use Rattle.client_scripts.specs.declared.script.Answered.{Answered}
+use Rattle.client_run.specs.declared.script.Answered.{Answered}
 use Rattle.command_words.specs.Commands.{Serve, Spells}
 use Rattle.disk_model.specs.declared.disk.Device.{Ghosts}
 use Rattle.io_edges.specs.Devices.{AppendsPrefix}

@@ -1,8 +1,8 @@
 -- What several clients ask of one store at once, and how they are answered.
 use Rattle.std.specs.Prelude.{◌≡◌, ℕ, zero, suc, ◌+◌, ◌*◌, ◌<◌, ◌≤◌, ◌==◌, Bool, true, List, [], ◌∷◌, ◌++◌, Option, Ok, Err, decimal, filter, length, map}
 use Rattle.std.specs.List.{Contains, range_with_len}
-use Rattle.client_scripts.specs.Served.{AllTold, AreServed}
-use Rattle.client_scripts.specs.declared.script.Answered.{Answered}
+use Rattle.client_run.specs.Served.{AllTold, AreServed}
+use Rattle.client_run.specs.declared.script.Answered.{Answered}
 use Rattle.io_edges.specs.Lines.{line_limit}
 use Rattle.port_history.specs.Entries.{Entry, Legal, call_of}
 use Rattle.session_text.specs.declared.refusal.Refusal.TheVariants.{BadRequest, TooLong}

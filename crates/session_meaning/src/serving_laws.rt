@@ -3,8 +3,8 @@
 //! Each function has an empty body: its contract is the statement, and its proof stands in `proofs/serving_laws/`.
 
 ghost use Rattle.std.specs.Prelude.{Bool, ◌≡◌, ◌∷◌, ◌++◌, List, Ok, true, false, length, map, ℕ};
-ghost use Rattle.client_scripts.specs.declared.script.Answered.{Answered};
-ghost use Rattle.client_scripts.specs.Numbers.{AreInARow, given_numbers};
+ghost use Rattle.client_run.specs.declared.script.Answered.{Answered};
+ghost use Rattle.client_run.specs.Numbers.{AreInARow, given_numbers};
 ghost use Rattle.otlp_spans.specs.declared.read.Reading.{Reading};
 ghost use Rattle.port_history.specs.Entries.{Entry, call_of};
 ghost use Rattle.session_text.specs.declared.refusal.Refusal.{Refusal};

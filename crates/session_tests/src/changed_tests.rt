@@ -3,14 +3,13 @@
 
 use disk_model::{ByteLists, Device, MemDisk, OddDisk};
 use io_edges::{FixedClock, MemSink, OpenGate};
-use run_support::{PUSH_X, PUSHED_0, all_words, calls, session_on, source_of};
+use run_support::{Ended, PUSH_X, PUSHED_0, all_words, calls, run, session_on, source_of};
 use span_types::{Bytes, Memory, Moments};
 use std::alloc::{AllocError, Global};
 use std::process::Abort;
 use std::sync::Wait;
 use std::test::Fail;
 use std::thread::Threads;
-use trace_shell::{Ended, run};
 use traceql_types::RegexMaker;
 
 /// The lines that make a block of the span of `PUSH_X`.

@@ -2,13 +2,15 @@
 
 use disk_model::MemDisk;
 use io_edges::{FixedClock, MemSink, MemSource, OpenGate, Sink, Source};
-use run_support::{FINE, Failing, LOOK_A1, PUSH_X, PUSH_Y, TRACE_X, all_words, calls, play};
+use run_support::{
+    Ended, FINE, Failing, LOOK_A1, PUSH_X, PUSH_Y, StdinSource, StdoutSink, TRACE_X, all_words,
+    calls, play, run, run_alone,
+};
 use span_types::{Bytes, Failed, Moments};
 use std::io::{self, Read, Write};
 use std::process::Abort;
 use std::sync::Wait;
 use std::thread::Threads;
-use trace_shell::{Ended, StdinSource, StdoutSink, run, run_alone};
 use traceql_types::RegexMaker;
 
 const LOOK_A2: &str = "trace 000000000000000000000000000000A2";

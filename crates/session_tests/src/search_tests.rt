@@ -3,9 +3,8 @@
 use crate::run_tests::{check, session};
 use disk_model::MemDisk;
 use io_edges::{FixedClock, MemSink, OpenGate};
-use run_support::{FINE, all_words, calls, source_of};
+use run_support::{Ended, FINE, all_words, calls, run, source_of};
 use span_types::Moments;
-use trace_shell::{Ended, run};
 use traceql_types::ScriptedMaker;
 
 /// Two traces that start together: the one of the lesser id comes first, and one is asked for.

@@ -11,7 +11,7 @@ use Rattle.store_model.specs.Event.{Event, Reply}
 use Rattle.store_model.specs.Event.Event.{Push, BeginFlush, BeginCompact, WritePiece, CommitFlush, CommitCompact, Look, ReadPage, Reclaim}
 use Rattle.store_model.specs.Event.Reply.{Count, Fine, Nothing, Flushing, Compacting, Looked, Page, Refused}
 use Rattle.store_model.specs.Event.Refusal.{Fault}
-use Rattle.store_entries.specs.declared.entry.Entry.{Entry as Added}
+use Rattle.store_model.specs.declared.entry.Entry.{Entry as Added}
 use Rattle.store_model.specs.History.{History, grown}
 use Rattle.store_model.specs.Holds.{Hold, ends, opened, own_files, holds_after, files_of}
 use Rattle.store_model.specs.Holds.Hold.{OpenLook, OpenFlush, OpenCompact}

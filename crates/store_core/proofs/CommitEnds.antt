@@ -10,7 +10,7 @@ use Rattle.disk_model.proofs.CallRuns.{calls_counts, counts_then, raised_rose}
 use Rattle.disk_model.proofs.Moments.{widened}
 use Rattle.block_info.specs.InfoParts.{InfoParts}
 use Rattle.block_list.specs.declared.body.ListBody.{ListBody}
-use Rattle.store_entries.specs.declared.entry.Entry.{Entry}
+use Rattle.store_model.specs.declared.entry.Entry.{Entry}
 use Rattle.store_model.specs.State.{State, is_among}
 use Rattle.store_model.specs.Event.{Event}
 use Rattle.store_model.specs.Event.Reply.{Fine, Refused}

@@ -13,7 +13,7 @@ use Rattle.block_list.specs.Body.{MeetsRules, files_of, successor}
 use Rattle.block_list.specs.declared.body.BlockRef.{BlockRef}
 use Rattle.block_list.specs.declared.body.SegmentRef.{SegmentRef}
 use Rattle.block_list.specs.declared.body.ListBody.{ListBody}
-use Rattle.store_entries.specs.declared.entry.Entry.{Entry}
+use Rattle.store_model.specs.declared.entry.Entry.{Entry}
 use Rattle.store_model.specs.History.{History, batch_rows, record_rows, history_rows, count_of}
 use Rattle.store_model.specs.State.{Block, segment_files, block_rows, block_files, live_rows}
 use Rattle.store_model.specs.After.{arrived}

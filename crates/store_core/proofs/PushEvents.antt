@@ -11,7 +11,7 @@ use Rattle.head_log.specs.declared.segment.Segment.{Segment}
 use Rattle.head_log.specs.Stands.{SegmentHolds, SegmentKeepsEither}
 use Rattle.live_traces.specs.Parts.{LiveParts}
 use Rattle.live_traces.specs.Rows.{ChunkParts}
-use Rattle.store_entries.specs.declared.entry.Entry.{Entry}
+use Rattle.store_model.specs.declared.entry.Entry.{Entry}
 use Rattle.store_model.specs.History.{History, batch_rows, count_of, pushed, push_of}
 use Rattle.store_model.specs.After.{arrived}
 use Rattle.store_model.specs.Event.{Reply, Refusal}

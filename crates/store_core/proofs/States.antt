@@ -9,7 +9,7 @@ use Rattle.head_log.specs.declared.segment.Segment.{Segment}
 use Rattle.block_list.specs.declared.body.SegmentRef.{SegmentRef}
 use Rattle.live_traces.specs.Parts.{LiveParts}
 use Rattle.live_traces.specs.Rows.{ChunkParts}
-use Rattle.store_entries.specs.declared.entry.Entry.{Entry}
+use Rattle.store_model.specs.declared.entry.Entry.{Entry}
 use Rattle.store_model.specs.History.{batch_rows, count_of, pushed, push_of}
 use Rattle.store_model.specs.State.{State, Block, LiveRow}
 use Rattle.store_model.specs.After.{arrived, after_push}

@@ -9,7 +9,7 @@ use Rattle.block_info.specs.InfoParts.{InfoParts}
 use Rattle.block_list.specs.Body.{MeetsRules}
 use Rattle.block_list.specs.declared.body.BlockRef.{BlockRef}
 use Rattle.block_list.specs.declared.body.SegmentRef.{SegmentRef}
-use Rattle.store_entries.specs.declared.entry.Entry.{Entry}
+use Rattle.store_model.specs.declared.entry.Entry.{Entry}
 use Rattle.store_model.specs.History.{count_of, push_of}
 use Rattle.store_model.specs.State.{Block, Segment as ModelSegment, pin_numbers, block_files, flush_rows, pinned_blocks, is_among}
 use Rattle.store_model.specs.Step.{Machine}

@@ -1,7 +1,7 @@
 -- What an image may stand for that a crash left earlier.
 use Rattle.std.specs.Prelude.{◌⊎◌, ◌≤◌, ℕ, Option}
 use Rattle.disk_model.specs.Images.{Image}
-use Rattle.store_entries.specs.declared.entry.Entry.{Entry}
+use Rattle.store_model.specs.declared.entry.Entry.{Entry}
 use Rattle.store_model.specs.History.{History, count_of, up_to}
 use Rattle.store_images.specs.Stored.{MayStandFor, ImageStandsFor}
 

@@ -16,8 +16,8 @@ use crate::error::OpenError;
 use block_info::SharedInfo;
 use block_list::BlockRef;
 use block_read::check_bytes;
+use byte_fields::Break;
 use disk_model::Device;
-use span_fields::Break;
 use span_types::Shared;
 use std::alloc::Global;
 

@@ -8,3 +8,5 @@ pub mod Between
 pub mod Committed
 pub mod Compacted
 pub mod CompactImages
+pub mod OneHistory
+pub mod StayAlike

@@ -1,7 +1,7 @@
 -- A step keeps what is open but for what it ends.
 use Rattle.std.proofs.Common.{◌≡◌, ℕ, ◌-◌, ◌≤◌, ◌==◌, zero, suc, List, [], ◌∷◌, ◌++◌, Option, None, Some, true, false, refl, sym, ◌∙◌, ap, subst, arith, length, take}
 use Rattle.std.specs.Prelude.{◌||◌}
-use Rattle.store_entries.specs.declared.entry.Entry.{Entry}
+use Rattle.store_model.specs.declared.entry.Entry.{Entry}
 use Rattle.span_types.specs.First.{first_at}
 use Rattle.store_model.specs.History.{History, first_in, up_to, count_of, grown, push_of}
 use Rattle.store_model.specs.State.{Flush, Compaction, Pinned, block_rows, block_files, is_among, pin_numbers, compaction_pins, pinned_blocks, IsFreeNumber, without_pin}

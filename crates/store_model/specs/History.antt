@@ -8,8 +8,8 @@ use Rattle.span_types.specs.declared.spans.Span.{Span}
 use Rattle.span_types.specs.declared.spans.Row.{Row}
 use Rattle.span_types.specs.Orders.{trace_cmp}
 use Rattle.span_types.specs.First.{first_at, IsFirstOf}
-use Rattle.store_entries.specs.declared.entry.Entry.{Entry}
-use Rattle.store_entries.specs.declared.entry.Entry.TheVariants.{Push, Forget}
+use Rattle.store_model.specs.declared.entry.Entry.{Entry}
+use Rattle.store_model.specs.declared.entry.Entry.TheVariants.{Push, Forget}
 
 -- The base is the rows that were there at first, whatever they are. The first entry has the number `start`.
 pub record History : Type 0 where

@@ -3,7 +3,7 @@ use Rattle.std.specs.Prelude.{◌≡◌, ◌≤◌, List, ◌++◌, length, Opti
 use Rattle.std.specs.List.{AllByRecursion, Contains}
 use Rattle.span_types.specs.declared.spans.Row.{Row}
 use Rattle.span_types.specs.First.{IsFirstOf}
-use Rattle.store_entries.specs.declared.entry.Entry.{Entry}
+use Rattle.store_model.specs.declared.entry.Entry.{Entry}
 use Rattle.store_model.specs.History.{History, count_of, push_of, with_entry}
 use Rattle.store_model.specs.State.{State, Block, Flush, Compaction, block_rows, flush_rows, live_rows}
 use Rattle.store_model.specs.Choice.{in_files}

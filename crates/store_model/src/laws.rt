@@ -9,7 +9,7 @@ ghost use Rattle.span_types.specs.declared.ids.Key.{Key};
 ghost use Rattle.span_types.specs.declared.spans.Row.{Row};
 ghost use Rattle.span_types.specs.declared.spans.Span.{Span};
 ghost use Rattle.span_types.specs.First.{first_at, IsFirstOf};
-ghost use Rattle.store_entries.specs.declared.entry.Entry.{Entry};
+ghost use Rattle.store_model.specs.declared.entry.Entry.{Entry};
 ghost use Rattle.store_model.specs.History.{History, history_rows, pushed, grown, up_to, batch_rows, after_entries, count_of, first_in};
 ghost use Rattle.store_model.specs.RowSets.{SameRows, OnePlace};
 ghost use Rattle.store_model.specs.State.{State, is_among, flush_rows, live_rows, block_rows};

@@ -4,7 +4,7 @@ use Rattle.std.specs.List.{Contains}
 use Rattle.disk_model.specs.Crash.{LeavesOnly}
 use Rattle.disk_model.specs.Images.{Image}
 use Rattle.disk_model.specs.declared.disk.Device.{Ghosts}
-use Rattle.store_entries.specs.declared.entry.Entry.{Entry}
+use Rattle.store_model.specs.declared.entry.Entry.{Entry}
 use Rattle.store_model.specs.History.{History, count_of, grown, up_to}
 use Rattle.store_model.specs.Step.{Machine}
 use Rattle.store_images.specs.Stored.{ImageStandsFor, MayStandFor}

@@ -3,7 +3,7 @@
 //! Each function has an empty body: its contract is the statement, and its proof stands in `proofs/laws/`.
 
 ghost use Rattle.std.specs.Prelude.{◌≡◌, ◌++◌, [], ℕ, List, Option, None, IsTrue};
-ghost use Rattle.store_entries.specs.declared.entry.Entry.{Entry};
+ghost use Rattle.store_model.specs.declared.entry.Entry.{Entry};
 ghost use Rattle.store_model.specs.Event.{Event, Reply};
 ghost use Rattle.store_model.specs.History.{History, count_of};
 ghost use Rattle.store_model.specs.Step.{Machine};

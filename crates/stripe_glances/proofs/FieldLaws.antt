@@ -21,14 +21,14 @@ use Rattle.byte_fields.specs.declared.error.FieldError.TheVariants.{NotText, Sho
 use Rattle.byte_fields.specs.Reading.{Stand, ◌>>=◌, ahead, byte_at, left, raw_at, signed_of, text_at, var_at, zigzag_at}
 use Rattle.byte_fields.proofs.FieldLaws.{read_as}
 use Rattle.byte_fields.proofs.FieldLaws.{same_read as same_field}
-use Rattle.span_fields.specs.Breaks.{in_part, or_place}
-use Rattle.span_fields.specs.Decodings.{id_at, kind_at, or_break, parent_at, parent_of, some_id_at, span_id_at, status_at, trace_id_at, truth_at, truth_of, truth_value_at, value_at, value_of, whole_value_at}
-use Rattle.span_fields.proofs.Meant.{bound, chosen, kept_else, kept_then, or_break_ok}
+use Rattle.byte_fields.specs.Breaks.{in_part, or_place}
+use Rattle.byte_fields.specs.SpanDecodings.{id_at, kind_at, or_break, parent_at, parent_of, some_id_at, span_id_at, status_at, trace_id_at, truth_at, truth_of, truth_value_at, value_at, value_of, whole_value_at}
+use Rattle.byte_fields.proofs.Meant.{bound, chosen, kept_else, kept_then, or_break_ok}
 use Rattle.block_columns.specs.ColumnLaws.{read_to}
 use Rattle.block_columns.specs.ColumnReadings.{Spot, column_at, field, items_at, made_at, named, new_at, number_at, or_malformed, reference_at}
 use Rattle.block_columns.proofs.Basics.{same_read}
 use Rattle.block_columns.proofs.MeantParts.{at_spot_ok}
-use Rattle.block_parts.specs.PartReadings.{as_attr, as_resource, as_scope, attr_with, attrs_with, resource_with, scope_with, value_with}
+use Rattle.block_columns.specs.PartReadings.{as_attr, as_resource, as_scope, attr_with, attrs_with, resource_with, scope_with, value_with}
 use Rattle.block_stripes.specs.StripeReadings.{is_no_position, position_at, whole_text_at}
 use Rattle.stripe_glances.specs.Leaps.{Keeps, Lands, Leaps}
 use Rattle.stripe_glances.proofs.LandLaws.{leaps, made_leaps, pair_leaps, stands, unless_lands}

@@ -1,7 +1,7 @@
 -- Where reading stands after values in parts, and after values one after another.
 use Rattle.std.proofs.Common.{◌≡◌, ℕ, suc, ◌+◌, ◌-◌, ◌<◌, ◌≤◌, Bool, cond, List, [], ◌∷◌, ◌++◌, Ok, Err, sym, ◌∙◌, ap, subst, arith}
 use Rattle.byte_fields.specs.Reading.{Stand, ◌>>=◌}
-use Rattle.span_fields.proofs.Meant.{bound, kept_else}
+use Rattle.byte_fields.proofs.Meant.{bound, kept_else}
 use Rattle.block_columns.specs.ColumnLaws.{read_to}
 use Rattle.block_columns.specs.ColumnReadings.{Read, Spot, counted_at, items_at, made_at, number_at, pair_at, unless_at}
 use Rattle.block_columns.proofs.Basics.{same_read}

@@ -6,13 +6,13 @@ use Rattle.span_types.specs.declared.attrs.Scope.{Scope}
 use Rattle.span_types.specs.declared.spans.Row.{Row}
 use Rattle.span_types.specs.declared.spans.SpanKind.{SpanKind}
 use Rattle.byte_fields.specs.Reading.{Stand, ◌>>=◌}
-use Rattle.span_fields.specs.Decodings.{kind_at, parent_at, span_id_at, status_at, trace_id_at}
-use Rattle.span_fields.proofs.Meant.{bound}
+use Rattle.byte_fields.specs.SpanDecodings.{kind_at, parent_at, span_id_at, status_at, trace_id_at}
+use Rattle.byte_fields.proofs.Meant.{bound}
 use Rattle.block_columns.specs.ColumnLaws.{read_to}
 use Rattle.block_columns.specs.ColumnReadings.{Read, Spot, all_used, beside, both_at, column_at, counted_at, field, items_at, number_at, only_if_at, owners_at, reference_at}
 use Rattle.block_columns.proofs.Basics.{beside_lefts, beside_rights, same_read}
 use Rattle.block_columns.proofs.References.{used_up}
-use Rattle.block_parts.specs.PartReadings.{attrs_with, event_with, link_with, resource_with, scope_with}
+use Rattle.block_columns.specs.PartReadings.{attrs_with, event_with, link_with, resource_with, scope_with}
 use Rattle.block_stripes.specs.StripeReadings.{Listed, cells_at, moment_at, owners_with, position_at, rows_of}
 use Rattle.block_stripes.specs.StripeRows.{Cells, OwnerCells, TimeCells}
 use Rattle.stripe_glances.specs.Glances.{IsGlance}

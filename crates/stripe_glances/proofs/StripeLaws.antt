@@ -8,13 +8,13 @@ use Rattle.span_types.specs.declared.spans.Row.{Row}
 use Rattle.span_types.specs.Equal.{same_resource, same_scope}
 use Rattle.byte_fields.specs.Reading.{Stand, ◌>>=◌, fixed64_at}
 use Rattle.byte_fields.proofs.FieldLaws.{read_as}
-use Rattle.span_fields.specs.Breaks.{in_part}
-use Rattle.span_fields.proofs.Meant.{Bound, bound, kept_else, kept_then}
+use Rattle.byte_fields.specs.Breaks.{in_part}
+use Rattle.byte_fields.proofs.Meant.{Bound, bound, kept_else, kept_then}
 use Rattle.block_columns.specs.ColumnLaws.{read_to}
 use Rattle.block_columns.specs.ColumnReadings.{Spot, all_used, made_at, number_at, table_at}
 use Rattle.block_columns.proofs.Basics.{same_read}
 use Rattle.block_columns.proofs.References.{used_up}
-use Rattle.block_parts.specs.PartReadings.{resource_with, scope_with}
+use Rattle.block_columns.specs.PartReadings.{resource_with, scope_with}
 use Rattle.block_stripes.specs.StripeReadings.{Listed, ascend, cells_at, content_at, content_of, content_part, counted_rows_at, is_no_size, owned_rows_at, rows_of, scoped_rows_at, size_at, stripe_at, texts_first, unfilled, unless_some, whole_text_at}
 use Rattle.block_stripes.proofs.StripeLaws.{fill_found}
 use Rattle.stripe_glances.specs.Glances.{IsGlance, TellsIfRead}

@@ -1,7 +1,7 @@
 //! Columns whose values are kept: those of a fixed width.
 
 ghost use Rattle.std.specs.Prelude.{ℕ, IfSome, Result};
-ghost use Rattle.span_fields.specs.Decodings.{kind_at, status_at, trace_id_at};
+ghost use Rattle.byte_fields.specs.SpanDecodings.{kind_at, status_at, trace_id_at};
 ghost use Rattle.block_columns.specs.ColumnReadings.{Spot, column_at, field};
 ghost use Rattle.block_stripes.specs.StripeReadings.{moment_at};
 ghost use Rattle.stripe_glances.specs.Leaps.{Keeps};

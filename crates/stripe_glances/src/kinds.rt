@@ -3,9 +3,9 @@
 ghost use Rattle.std.specs.Prelude.{ℕ, List, IsTrue};
 ghost use Rattle.std.specs.Str.{bytes_eq};
 ghost use Rattle.span_types.specs.Equal.{same_resource, same_scope};
-ghost use Rattle.span_fields.specs.Decodings.{parent_at};
+ghost use Rattle.byte_fields.specs.SpanDecodings.{parent_at};
 ghost use Rattle.block_columns.specs.ColumnReadings.{field, new_at, number_at, reference_at};
-ghost use Rattle.block_parts.specs.PartReadings.{attr_with, resource_with, scope_with, value_with};
+ghost use Rattle.block_columns.specs.PartReadings.{attr_with, resource_with, scope_with, value_with};
 ghost use Rattle.block_stripes.specs.StripeReadings.{position_at, whole_text_at};
 ghost use Rattle.stripe_glances.specs.Leaps.{Leaps};
 

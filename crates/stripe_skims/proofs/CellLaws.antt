@@ -9,7 +9,7 @@ use Rattle.span_types.specs.declared.attrs.Scope.{Scope}
 use Rattle.span_types.specs.Equal.{same_resource, same_scope}
 use Rattle.block_columns.specs.ColumnLaws.{read_to}
 use Rattle.block_columns.specs.ColumnReadings.{Spot, made_at, number_at, table_at}
-use Rattle.block_parts.specs.PartReadings.{resource_with, scope_with}
+use Rattle.block_columns.specs.PartReadings.{resource_with, scope_with}
 use Rattle.span_types.specs.declared.spans.Row.{Row}
 use Rattle.span_types.specs.declared.spans.SpanEvent.{SpanEvent}
 use Rattle.span_types.specs.declared.spans.SpanKind.{SpanKind}

@@ -7,8 +7,8 @@ use Rattle.block_columns.specs.ColumnLaws.{read_to}
 use Rattle.block_columns.proofs.Basics.{beside_lefts, beside_rights}
 use Rattle.span_types.specs.declared.ids.SpanId.{SpanId}
 use Rattle.span_types.specs.declared.ids.TraceId.{TraceId}
-use Rattle.span_fields.specs.Decodings.{span_id_at, trace_id_at}
-use Rattle.block_parts.specs.PartReadings.{as_event, as_link, attrs_with, event_with, link_with}
+use Rattle.byte_fields.specs.SpanDecodings.{span_id_at, trace_id_at}
+use Rattle.block_columns.specs.PartReadings.{as_event, as_link, attrs_with, event_with, link_with}
 use Rattle.block_stripes.specs.StripeReadings.{moment_at}
 use Rattle.stripe_skims.specs.Sure.{Passes, Refers, Skims, TellsBoth, nothing_told}
 use Rattle.stripe_skims.proofs.ItemLaws.{items_sized}

@@ -4,8 +4,8 @@ use Rattle.std.specs.Prelude.{IsTrue, is_ok}
 use Rattle.std.proofs.lemmas.List.{length-append}
 use Rattle.std.proofs.lemmas.List.Folds.{list_any-append}
 use Rattle.std.proofs.Math.Bool.{or-false}
-use Rattle.span_fields.specs.declared.breaks.Break.{Break}
-use Rattle.span_fields.proofs.Meant.{bound}
+use Rattle.byte_fields.specs.declared.breaks.Break.{Break}
+use Rattle.byte_fields.proofs.Meant.{bound}
 use Rattle.byte_fields.specs.Reading.{◌>>=◌}
 use Rattle.block_columns.specs.ColumnReadings.{Spot, Read, column_at, counted_at, items_at, number_at, only_if_at}
 use Rattle.block_columns.specs.ColumnLaws.{read_to}

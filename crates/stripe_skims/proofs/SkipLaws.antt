@@ -9,9 +9,9 @@ use Rattle.std.proofs.lemmas.List.Folds.{list_any-append}
 use Rattle.std.proofs.lemmas.Slice.Eq.{bytes_eq-Decides}
 use Rattle.std.proofs.Math.Bool.{or-false}
 use Rattle.byte_fields.specs.Reading.{byte_at}
-use Rattle.span_fields.specs.Breaks.{in_part}
-use Rattle.span_fields.specs.Decodings.{value_at}
-use Rattle.span_fields.specs.declared.breaks.Break.{Break}
+use Rattle.byte_fields.specs.Breaks.{in_part}
+use Rattle.byte_fields.specs.SpanDecodings.{value_at}
+use Rattle.byte_fields.specs.declared.breaks.Break.{Break}
 use Rattle.span_types.specs.Promises.{has_key}
 use Rattle.span_types.specs.declared.attrs.Attr.{Attr}
 use Rattle.span_types.specs.declared.attrs.AttrValue.{AttrValue}
@@ -20,7 +20,7 @@ use Rattle.block_columns.specs.ColumnReadings.{Spot, field, items_at, made_at, p
 use Rattle.block_columns.specs.Outcomes.{Finds}
 use Rattle.block_columns.proofs.ReadingSteps.{items_done, items_go_on, reference_found}
 use Rattle.block_columns.specs.ColumnLaws.{read_to}
-use Rattle.block_parts.specs.PartReadings.{attr_with, value_with}
+use Rattle.block_columns.specs.PartReadings.{attr_with, value_with}
 use Rattle.stripe_skims.specs.Sure.{AreApart, AreBefore, AreStamped, Passes, PassesAttr, Refers}
 
 record There {T : Type 0} (table : List T) (n : ℕ) : Type 0 where

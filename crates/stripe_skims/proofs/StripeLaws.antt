@@ -7,8 +7,8 @@ use Rattle.std.proofs.lemmas.List.{length-drop, take_all}
 use Rattle.std.proofs.lemmas.Slice.Eq.{bytes_eq-Decides}
 use Rattle.span_types.specs.declared.spans.Row.{Row}
 use Rattle.byte_fields.specs.Reading.{◌>>=◌, Stand, fixed64_at}
-use Rattle.span_fields.specs.Breaks.{in_part}
-use Rattle.span_fields.proofs.Meant.{bound, kept_else}
+use Rattle.byte_fields.specs.Breaks.{in_part}
+use Rattle.byte_fields.proofs.Meant.{bound, kept_else}
 use Rattle.block_columns.specs.Tables.{AllAfter, IsNew}
 use Rattle.block_columns.specs.ColumnLaws.{read_to}
 use Rattle.block_columns.specs.ColumnReadings.{Spot, Read, counted_at, items_at, new_at, number_at, table_at, unless_at}

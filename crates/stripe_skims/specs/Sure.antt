@@ -5,7 +5,7 @@ use Rattle.std.specs.Str.{bytes_eq}
 use Rattle.span_types.specs.declared.attrs.Attr.{Attr}
 use Rattle.span_types.specs.Promises.{has_key}
 use Rattle.block_columns.specs.ColumnReadings.{Spot, number_at}
-use Rattle.block_parts.specs.PartReadings.{attr_with}
+use Rattle.block_columns.specs.PartReadings.{attr_with}
 
 -- Reading gives a value, and stands there after it.
 abbrev pub Passes : {X : Type 0} → Result (X × Spot) ℕ → Spot → Type 0

@@ -2,7 +2,7 @@
 use Rattle.std.specs.Prelude.{◌≡◌, ℕ, ◌+◌, Bool, false, List, drop, Result, Ok}
 use Rattle.span_types.specs.declared.spans.Row.{Row}
 use Rattle.byte_fields.specs.Reading.{◌>>=◌, fixed64_at}
-use Rattle.span_fields.specs.Breaks.{in_part}
+use Rattle.byte_fields.specs.Breaks.{in_part}
 use Rattle.block_columns.specs.ColumnReadings.{Spot}
 use Rattle.block_stripes.specs.StripeReadings.{content_of, rows_of, unfilled, unless_some}
 use Rattle.block_stripes.specs.StripeRows.{Cells}

@@ -4,7 +4,7 @@
 ghost use Rattle.std.specs.Prelude.{◌≡◌, ◌<◌, ◌+◌, List, [], ℕ, IfSome, IsTrue, length};
 ghost use Rattle.span_types.specs.declared.attrs.Attr.{Attr};
 ghost use Rattle.block_columns.specs.ColumnReadings.{items_at};
-ghost use Rattle.block_parts.specs.PartReadings.{attr_with, attrs_with, value_with};
+ghost use Rattle.block_columns.specs.PartReadings.{attr_with, attrs_with, value_with};
 ghost use Rattle.stripe_skims.specs.Sure.{AreApart, AreBefore, AreStamped, Passes, PassesAttr, Refers};
 
 use block_columns::Fields;

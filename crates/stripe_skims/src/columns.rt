@@ -170,7 +170,7 @@ impl<'t> Skim for EventLists<'t> {
 
     type Seen = bool;
 
-    ghost use Rattle.block_parts.specs.PartReadings.{event_with};
+    ghost use Rattle.block_columns.specs.PartReadings.{event_with};
     ghost use Rattle.stripe_skims.specs.Sure.{AreReady, TellsFilled};
 
     ghost reading = { λ e n s. column_at (only_if_at e.extended (counted_at (λ _. event_with e.events.lists.texts.now))) n s };
@@ -198,7 +198,7 @@ impl<'t> Skim for LinkLists<'t> {
 
     type Seen = bool;
 
-    ghost use Rattle.block_parts.specs.PartReadings.{link_with};
+    ghost use Rattle.block_columns.specs.PartReadings.{link_with};
     ghost use Rattle.stripe_skims.specs.Sure.{AreReady, TellsFilled};
 
     ghost reading = { λ e n s. column_at (only_if_at e.extended (counted_at (λ _. link_with e.links.lists.texts.now))) n s };

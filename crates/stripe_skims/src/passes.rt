@@ -2,7 +2,7 @@
 
 ghost use Rattle.std.specs.Prelude.{◌≡◌, ◌+◌, ◌<◌, ◌≤◌, IfSome, IsTrue, length};
 ghost use Rattle.block_columns.specs.ColumnReadings.{reference_at};
-ghost use Rattle.block_parts.specs.PartReadings.{attrs_with, event_with, link_with};
+ghost use Rattle.block_columns.specs.PartReadings.{attrs_with, event_with, link_with};
 ghost use Rattle.stripe_skims.specs.Sure.{AreApart, AreReady, Passes};
 
 use crate::attributes::{pass_attrs, pass_reference};

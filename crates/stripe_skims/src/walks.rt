@@ -9,8 +9,7 @@ ghost use Rattle.stripe_skims.specs.Walks.{TellsAll, TellsCells, TellsRows, unor
 use block_columns::{Fields, table};
 use block_stripes::kinds::{Resources, Scopes, WholeTexts};
 use block_stripes::{Listed, shared, unfilled};
-use byte_fields::Reader;
-use span_fields::fixed64;
+use byte_fields::{Reader, fixed64};
 use span_types::{SharedResource, SharedScope, Text};
 use std::alloc::Global;
 

@@ -3,8 +3,8 @@ use Rattle.std.proofs.Common.{◌≡◌, inl, inr, ⊎_elim, ◌∙◌, Bool, tr
 use Rattle.std.specs.Prelude.{IfSome}
 use Rattle.client_run.specs.CoreRuns.{AreSteps, unsure_after_calls}
 use Rattle.client_run.proofs.CoreLemmas.{KeepsSteps, counted_by, unsure_stepped}
-use Rattle.client_scripts.specs.Served.{AllTold, HasServed}
-use Rattle.client_scripts.specs.declared.script.Answered.{Answered}
+use Rattle.client_run.specs.Served.{AllTold, HasServed}
+use Rattle.client_run.specs.declared.script.Answered.{Answered}
 use Rattle.disk_model.specs.Crash.{Reached}
 use Rattle.disk_model.specs.Images.{Image}
 use Rattle.disk_model.specs.declared.disk.Device.{Ghosts}
@@ -15,7 +15,7 @@ use Rattle.store_core.specs.Cores.{CoreShows, CoreStandsFor, unsure_of}
 use Rattle.store_core.specs.Opening.{KeepsDisk, OpensAs, OpensOver, StoreBreaks}
 use Rattle.store_core.specs.Port.{port_of}
 use Rattle.store_core.specs.declared.store.Core.{Core}
-use Rattle.store_entries.specs.declared.entry.Entry.{Entry as Added}
+use Rattle.store_model.specs.declared.entry.Entry.{Entry as Added}
 use Rattle.store_images.specs.Stored.{IsTidy, KeepsStored}
 use Rattle.store_model.specs.History.{History, count_of}
 use Rattle.store_model.specs.Step.{Machine, Step}

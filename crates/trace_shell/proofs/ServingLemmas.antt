@@ -1,6 +1,6 @@
 -- What serving clients comes to over a core that was opened, and what its words ask.
 use Rattle.std.proofs.Common.{◌≡◌, ◌⊎◌, inl, inr, ◌∙◌, true, false, ℕ, ◌*◌, ◌≤◌, List, [], ◌∷◌, ◌++◌, Option, Some, ap, append-nil, arith, refl, subst, sym}
-use Rattle.client_scripts.specs.Served.{HasServed}
+use Rattle.client_run.specs.Served.{HasServed}
 use Rattle.command_words.specs.Commands.{Alone, Command, Drill, Ingest, Serve, Session, Spells, serve}
 use Rattle.command_words.specs.Spelling.{begins_to_serve}
 use Rattle.command_words.proofs.Spelled.{begins_serves, serve_begins}

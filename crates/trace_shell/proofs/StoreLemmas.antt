@@ -8,7 +8,7 @@ use Rattle.io_edges.specs.Lines.{lines}
 use Rattle.disk_model.specs.declared.disk.Device.{Ghosts}
 use Rattle.session_text.specs.declared.reply.Reply.{Reply}
 use Rattle.session_text.specs.Items.{Item}
-use Rattle.store_entries.specs.declared.entry.Entry.{Entry}
+use Rattle.store_model.specs.declared.entry.Entry.{Entry}
 use Rattle.store_model.specs.History.{count_of}
 use Rattle.store_model.specs.Step.{Machine}
 use Rattle.store_state.specs.Cores.{CoreHolds}

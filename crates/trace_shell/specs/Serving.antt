@@ -2,8 +2,8 @@
 -- session_meaning.
 use Rattle.std.specs.Prelude.{◌≡◌, ℕ, List, [], ◌∷◌, Option, Some, None}
 use Rattle.std.specs.Io.KnownBytes.{Appends}
-use Rattle.client_scripts.specs.Served.{HasServed}
-use Rattle.client_scripts.specs.declared.script.Answered.{Answered}
+use Rattle.client_run.specs.Served.{HasServed}
+use Rattle.client_run.specs.declared.script.Answered.{Answered}
 use Rattle.disk_model.specs.declared.disk.Device.{Ghosts}
 use Rattle.io_edges.specs.Devices.{AppendsPrefix}
 use Rattle.port_history.specs.Entries.{Entry}

@@ -14,7 +14,7 @@ ghost use Rattle.trace_shell.specs.Dealing.{DealtOn, HasDealt, HasStopped, IsDea
 ghost use Rattle.trace_shell.specs.Ingesting.{ending_in};
 
 use crate::ingesting::After;
-use client_scripts::{Item, Scripts};
+use client_run::{Item, Scripts};
 use io_edges::{Clock, Line, LineError, LineReader, Source};
 use session_meaning::Ending;
 use session_text::{Refusal, Request, read_request};

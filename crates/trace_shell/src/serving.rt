@@ -4,7 +4,7 @@
 
 ghost use Rattle.std.specs.Prelude.{true, false, ◌≡◌, ◌≢◌, ◌⊎◌, ◌≤◌, ◌++◌, ◌∷◌, List, Option, [], IfOk, IfSome, IsTrue, map, string_bytes, ℕ};
 ghost use Rattle.std.specs.List.{list_any};
-ghost use Rattle.client_scripts.specs.declared.script.Answered.{Answered as answered};
+ghost use Rattle.client_run.specs.declared.script.Answered.{Answered as answered};
 ghost use Rattle.command_words.specs.Commands.{Serve};
 ghost use Rattle.command_words.specs.Numbers.{word_faults};
 ghost use Rattle.command_words.specs.Spelling.{begins_to_serve};
@@ -26,7 +26,7 @@ ghost use Rattle.trace_shell.specs.Turn.{HasDone};
 use crate::dealing::{read_scripts, with_upkeep};
 use crate::dispatch::refuse_store;
 use crate::session::Tally;
-use client_scripts::{Answered, run_scripts};
+use client_run::{Answered, run_scripts};
 use command_words::{Asked, WordsError, read_words};
 use disk_model::Device;
 use io_edges::{Clock, Gate, Sink, Source};

@@ -2,7 +2,7 @@ use Rattle.std.proofs.Common.{◌≡◌, ◌++◌, ℕ, List, length, drop, ap, 
 use Rattle.std.proofs.lemmas.List.{length-map}
 use Rattle.span_types.specs.declared.ids.TraceId.{TraceId}
 use Rattle.span_types.specs.declared.spans.Row.{Row}
-use Rattle.block_rows.specs.Tails.{IsTailOf}
+use Rattle.block_format.specs.Tails.{IsTailOf}
 use Rattle.block_format.specs.declared.header.Header.{Header}
 use Rattle.block_format.specs.Headers.{CanBeHeader}
 use Rattle.block_build.proofs.Whole.{described, is_ready}

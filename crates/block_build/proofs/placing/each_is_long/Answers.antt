@@ -1,7 +1,7 @@
 use Rattle.std.proofs.Common.{All, subst, arith}
 use Rattle.std.proofs.lemmas.List.{take_all}
 use Rattle.std.proofs.lemmas.List.Elements.{All-more, All-nil}
-use Rattle.block_rows.proofs.IndexSizes.{IsLong}
+use Rattle.block_format.proofs.IndexSizes.{IsLong}
 use Rattle.block_build.proofs.placing.each_is_long.Goals as goal
 
 pub loop-id-init : goal.loop-id-init

@@ -1,7 +1,7 @@
 use Rattle.std.proofs.Common.{rules, All, sym, subst, arith}
 use Rattle.std.proofs.lemmas.Grind.{common_steps}
 use Rattle.std.proofs.lemmas.List.Elements.{All-nil}
-use Rattle.block_rows.proofs.IndexSizes.{IsLong, long_more}
+use Rattle.block_format.proofs.IndexSizes.{IsLong, long_more}
 use Rattle.block_build.proofs.rows.ids_of.Goals as goal
 
 pub loop-row-init : goal.loop-row-init

@@ -1,6 +1,6 @@
 use Rattle.std.proofs.Common.{◌<◌, ◌^◌, arith, length}
 use Rattle.std.proofs.lemmas.List.Elements.{recursion_from_All}
-use Rattle.span_fields.proofs.Results.{on_ok_more}
+use Rattle.byte_fields.proofs.Results.{on_ok_more}
 use Rattle.block_columns.proofs.pages.put_counted.Goals as goal
 
 pub returns-clause-sound : goal.returns-clause-sound

@@ -1,6 +1,6 @@
 use Rattle.std.proofs.Common.{◌≡◌, sym, ◌∙◌}
 use Rattle.std.proofs.lemmas.Result.{err_from_is_err_and}
-use Rattle.span_fields.specs.declared.breaks.Break.TheVariants as breaks
+use Rattle.byte_fields.specs.declared.breaks.Break.TheVariants as breaks
 use Rattle.block_columns.specs.ColumnReadings.{new_at}
 use Rattle.block_columns.proofs.ReadingSteps.{items_go_on, items_fail, items_done, new_broken, new_given, new_refused}
 use Rattle.block_columns.proofs.tables.each_new.Goals as goal

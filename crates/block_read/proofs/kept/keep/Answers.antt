@@ -1,7 +1,7 @@
 use Rattle.std.proofs.Common.{None, Some, sym, ap, ◌∙◌}
 use Rattle.span_types.specs.declared.ids.TraceId.{TraceId}
 use Rattle.span_types.specs.declared.spans.Row.{Row}
-use Rattle.stripe_traces.specs.Wanted.{is_one_of}
+use Rattle.stripe_skims.specs.Wanted.{is_one_of}
 use Rattle.block_read.proofs.KeptRows.{last_more, row_kept, row_left}
 use Rattle.block_read.proofs.kept.keep.Goals as goal
 

@@ -1,8 +1,8 @@
 use Rattle.std.proofs.Common.{◌≡◌, ℕ, ◌+◌, false, true, sym, ◌∙◌, ap, ap₂, refl, arith}
 use Rattle.std.proofs.lemmas.Result.{err_from_is_err_and}
-use Rattle.block_index.specs.Found.{found}
-use Rattle.block_index.specs.Index.{entries_on}
-use Rattle.block_index.specs.declared.search.Found.TheVariants.{Here, Absent}
+use Rattle.block_format.specs.Found.{found}
+use Rattle.block_format.specs.Index.{entries_on}
+use Rattle.block_format.specs.declared.index_search.Found.TheVariants.{Here, Absent}
 use Rattle.block_read.specs.Files.{page_of}
 use Rattle.block_read.proofs.Narrowing.{absent_has_no_place, as_first, here_is_place, middle_there, no_place, still_few, to_back, to_front}
 use Rattle.block_read.proofs.PageReads.{read_then}

@@ -1,5 +1,5 @@
 use Rattle.std.proofs.Common.{ℕ, ◌∙◌, ap, List}
-use Rattle.block_index.specs.Bloom.{may_hold}
+use Rattle.block_format.specs.Bloom.{may_hold}
 use Rattle.block_read.specs.Files.{page_of}
 use Rattle.block_read.proofs.FilterLaws.{not_missed}
 use Rattle.block_read.proofs.lookup.may_have.Goals as goal

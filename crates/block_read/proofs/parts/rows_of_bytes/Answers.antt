@@ -1,8 +1,8 @@
 use Rattle.std.proofs.Common.{◌≡◌, List, Result, Ok, sym, subst, ◌∙◌, ℕ}
 use Rattle.span_types.specs.declared.spans.Row.{Row}
-use Rattle.span_fields.specs.Breaks.{Fails}
-use Rattle.span_fields.specs.declared.breaks.Break.{Break}
-use Rattle.span_fields.specs.declared.breaks.Break.TheVariants as breaks
+use Rattle.byte_fields.specs.Breaks.{Fails}
+use Rattle.byte_fields.specs.declared.breaks.Break.{Break}
+use Rattle.byte_fields.specs.declared.breaks.Break.TheVariants as breaks
 use Rattle.block_read.proofs.parts.rows_of_bytes.Goals as goal
 
 same_rows : (xs ys : List Row) → (let r : Result (List Row) ℕ = Ok xs in let q : Result (List Row) ℕ = Ok ys in r ≡ q) → xs ≡ ys

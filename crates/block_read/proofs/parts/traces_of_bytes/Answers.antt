@@ -1,6 +1,6 @@
 use Rattle.std.proofs.Common.{List, None, refl, subst}
 use Rattle.span_types.specs.declared.spans.Row.{Row}
-use Rattle.stripe_traces.specs.Wanted.{HasTraces}
+use Rattle.stripe_skims.specs.Wanted.{HasTraces}
 use Rattle.block_read.proofs.KeptRows.{kept_again, none_found}
 use Rattle.block_read.proofs.StripesBoth.{part_read, stripe_again}
 use Rattle.block_read.proofs.parts.traces_of_bytes.Goals as goal

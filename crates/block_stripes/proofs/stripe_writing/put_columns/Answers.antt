@@ -1,4 +1,4 @@
-use Rattle.span_fields.proofs.Results.{on_ok_more}
+use Rattle.byte_fields.proofs.Results.{on_ok_more}
 use Rattle.block_stripes.specs.StripeEncodings.{id_columns, name_columns, owner_columns, time_columns}
 use Rattle.block_stripes.proofs.StripeSteps.{four_groups}
 use Rattle.block_stripes.proofs.stripe_writing.put_columns.Goals as goal

@@ -1,7 +1,7 @@
 use Rattle.std.proofs.Common.{ap, ◌∙◌}
 use Rattle.span_types.specs.declared.attrs.Resource.{Resource}
 use Rattle.span_types.specs.declared.attrs.Scope.{Scope}
-use Rattle.span_fields.proofs.Results.{on_ok_more}
+use Rattle.byte_fields.proofs.Results.{on_ok_more}
 use Rattle.block_columns.specs.ColumnEncodings.{Encoded}
 use Rattle.block_stripes.proofs.StripeSteps.{rows_written}
 use Rattle.block_stripes.proofs.stripe_writing.put_rows.Goals as goal

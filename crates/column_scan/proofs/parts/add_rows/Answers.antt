@@ -1,6 +1,6 @@
 use Rattle.std.proofs.Common.{arith, ◌++◌, [], ◌∷◌, Some, subst, refl, ap, sym, ◌∙◌}
 use Rattle.std.proofs.lemmas.List.{take_all}
-use Rattle.stripe_traces.specs.Wanted.{last_trace}
+use Rattle.stripe_skims.specs.Wanted.{last_trace}
 use Rattle.column_scan.specs.Candidates.{HaveLatest, spans_of}
 use Rattle.column_scan.specs.Sieves.{sifted_picks}
 use Rattle.span_types.specs.declared.spans.Row.{Row}

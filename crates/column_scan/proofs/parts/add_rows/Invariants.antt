@@ -1,5 +1,5 @@
 use Rattle.std.proofs.Common.{◌≡◌, ◌++◌, None, take}
-use Rattle.stripe_traces.specs.Wanted.{last_trace}
+use Rattle.stripe_skims.specs.Wanted.{last_trace}
 use Rattle.column_scan.specs.Candidates.{HaveLatest, spans_of}
 use Rattle.column_scan.specs.Sieves.{sifted_picks}
 use Rattle.column_scan.proofs.parts.add_rows.Given as goal

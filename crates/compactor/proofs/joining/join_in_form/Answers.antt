@@ -1,7 +1,7 @@
 use Rattle.std.proofs.Common.{◌<◌, ◌∙◌, List, ap, arith, drop, length, subst, sym}
 use Rattle.std.proofs.lemmas.List.{take_at}
 use Rattle.block_build.proofs.Firsts.{can_be_block}
-use Rattle.block_cursor.specs.Wholes.{AreFrom}
+use Rattle.block_read.specs.Wholes.{AreFrom}
 use Rattle.span_types.specs.declared.spans.Row.{Row}
 use Rattle.rows_by_trace.specs.Traces.{rows_of_trace}
 use Rattle.compactor.specs.Joining.{rows_of_others}

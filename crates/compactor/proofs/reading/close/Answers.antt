@@ -1,5 +1,5 @@
 use Rattle.std.proofs.Common.{◌≡◌, ◌≤◌, ◌+◌, inl, inr, ℕ, List, length, drop, Ok, sym, ◌∙◌, ap, subst, Vec, Global}
-use Rattle.span_fields.specs.Breaks.{Fails}
+use Rattle.byte_fields.specs.Breaks.{Fails}
 use Rattle.block_info.specs.InfoParts.{InfoParts}
 use Rattle.block_format.specs.Blocks.{BlockHolds}
 use Rattle.block_read.specs.Answers.{made_of}

@@ -1,6 +1,6 @@
 use Rattle.std.proofs.lemmas.Result.{err_from_is_err_and}
 use Rattle.head_log.specs.Scanning.{span_at}
-use Rattle.span_fields.proofs.ReadingLoops.{items_go_on, items_fail, items_done}
+use Rattle.byte_fields.proofs.ReadingLoops.{items_go_on, items_fail, items_done}
 use Rattle.head_log.proofs.bodies.each_span.Goals as goal
 
 pub returns-in_err-span : goal.returns-in_err-span

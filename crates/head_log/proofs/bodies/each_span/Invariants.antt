@@ -1,5 +1,5 @@
 use Rattle.std.proofs.Common.{◌≡◌, ◌-◌}
-use Rattle.span_fields.specs.Decodings.{items_at}
+use Rattle.byte_fields.specs.SpanDecodings.{items_at}
 use Rattle.head_log.specs.Scanning.{span_at}
 use Rattle.head_log.proofs.bodies.each_span.Given as goal
 

@@ -1,5 +1,5 @@
 use Rattle.std.proofs.Common.{ap, subst, ◌∙◌}
-use Rattle.span_fields.proofs.Results.{on_ok_more}
+use Rattle.byte_fields.proofs.Results.{on_ok_more}
 use Rattle.head_log.proofs.Promised.{run_sound}
 use Rattle.head_log.proofs.groups.put_run.Goals as goal
 

@@ -1,8 +1,8 @@
 use Rattle.std.proofs.Common.{◌≡◌, ◌++◌, append_assoc, subst, sym}
 use Rattle.std.specs.Prelude.{OnOk}
 use Rattle.span_types.specs.declared.spans.Span.{Span}
-use Rattle.span_fields.proofs.Results.{on_ok_more}
-use Rattle.span_fields.proofs.Promised.{id_sound, parent_sound}
+use Rattle.byte_fields.proofs.Results.{on_ok_more}
+use Rattle.byte_fields.proofs.Promised.{id_sound, parent_sound}
 use Rattle.head_log.specs.Bodies.{extras_bytes, span_bytes}
 use Rattle.head_log.specs.Written.{AreSoundExtras, IsSoundAlone}
 use Rattle.head_log.proofs.writing.put_span.Goals as goal

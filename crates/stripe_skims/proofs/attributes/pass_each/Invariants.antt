@@ -1,6 +1,6 @@
 use Rattle.std.proofs.Common.{◌≡◌, ◌+◌, ◌-◌, ℕ, List, [], length}
 use Rattle.block_columns.specs.ColumnReadings.{items_at}
-use Rattle.block_parts.specs.PartReadings.{attr_with}
+use Rattle.block_columns.specs.PartReadings.{attr_with}
 use Rattle.stripe_skims.specs.Sure.{AreApart, AreBefore}
 use Rattle.stripe_skims.proofs.SkipLaws.{Far}
 use Rattle.stripe_skims.proofs.attributes.pass_each.Given as goal

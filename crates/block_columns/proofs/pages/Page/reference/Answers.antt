@@ -1,5 +1,5 @@
 use Rattle.std.proofs.Common.{Bor, refl, sym}
-use Rattle.span_fields.proofs.Results.{on_ok_more}
+use Rattle.byte_fields.proofs.Results.{on_ok_more}
 use Rattle.block_columns.proofs.WritingSteps.{referenced}
 use Rattle.block_columns.proofs.pages.Page.reference.Goals as goal
 

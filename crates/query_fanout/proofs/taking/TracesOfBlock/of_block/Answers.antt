@@ -1,5 +1,5 @@
 use Rattle.std.proofs.Common.{◌≡◌, refl}
-use Rattle.stripe_traces.specs.Wanted.{rows_of_traces}
+use Rattle.stripe_skims.specs.Wanted.{rows_of_traces}
 use Rattle.query_fanout.specs.Reading.{AreTheirs}
 use Rattle.query_fanout.proofs.BlockLaws.{finds_fit, some_rows}
 use Rattle.query_fanout.proofs.taking.TracesOfBlock.of_block.Goals as goal

@@ -1,5 +1,5 @@
 use Rattle.std.proofs.Common.{ap}
-use Rattle.block_parts.specs.PartReadings.{event_with}
+use Rattle.block_columns.specs.PartReadings.{event_with}
 use Rattle.stripe_skims.proofs.ColumnLaws.{event_passes}
 use Rattle.stripe_skims.proofs.passes.EventsPass.pass.Goals as goal
 

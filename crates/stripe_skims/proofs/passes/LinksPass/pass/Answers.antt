@@ -1,5 +1,5 @@
 use Rattle.std.proofs.Common.{ap}
-use Rattle.block_parts.specs.PartReadings.{link_with}
+use Rattle.block_columns.specs.PartReadings.{link_with}
 use Rattle.stripe_skims.proofs.ColumnLaws.{link_passes}
 use Rattle.stripe_skims.proofs.passes.LinksPass.pass.Goals as goal
 

@@ -1,2 +1,0 @@
-mod CheckedBytes
-mod Taking

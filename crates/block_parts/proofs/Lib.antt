@@ -1,4 +1,0 @@
-pub mod PartLaws
-pub mod PartSteps
-pub mod Promised
-pub mod KeyLemmas

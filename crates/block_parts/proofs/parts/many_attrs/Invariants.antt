@@ -1,8 +1,0 @@
-use Rattle.std.proofs.Common.{◌≡◌, ◌-◌, []}
-use Rattle.block_columns.specs.ColumnReadings.{items_at}
-use Rattle.block_parts.specs.PartReadings.{attr_with}
-use Rattle.block_parts.specs.TextKeys.{HasKeysOf}
-use Rattle.block_parts.proofs.parts.many_attrs.Given as goal
-
-abbrev pub invariant-loop : goal.invariant-loop
-invariant-loop l = (items_at (attr_with l.texts) (l.count - l.counter) l.attrs.items l.fields ≡ items_at (attr_with l.texts) l.count [] l.fn.fields) × HasKeysOf l.keys l.attrs.items

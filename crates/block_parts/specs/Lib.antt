@@ -1,4 +1,0 @@
-pub mod PartEncodings
-pub mod PartReadings
-pub mod PartsKept
-pub mod TextKeys

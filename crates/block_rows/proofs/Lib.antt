@@ -1,2 +1,0 @@
-pub mod IndexSizes
-mod Pages

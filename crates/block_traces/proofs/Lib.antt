@@ -1,3 +1,0 @@
-mod IdLaws
-mod WalkLaws
-mod Stops

@@ -1,7 +1,0 @@
-pub mod ScriptLemmas
-pub mod ToldLemmas
-pub mod NameLemmas
-pub mod RunLemmas
-pub mod ServeLemmas
-pub mod Crossing
-pub mod CoreLemmas

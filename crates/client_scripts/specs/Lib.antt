@@ -1,4 +1,0 @@
-pub mod Scripts
-pub mod Told
-pub mod Served
-pub mod Stages

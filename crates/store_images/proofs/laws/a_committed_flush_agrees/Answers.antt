@@ -1,5 +1,0 @@
-use Rattle.store_images.proofs.Between.{flushed}
-use Rattle.store_images.proofs.laws.a_committed_flush_agrees.Goals as goal
-
-pub returns : goal.returns
-returns c = flushed

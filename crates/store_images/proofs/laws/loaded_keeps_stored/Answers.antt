@@ -1,5 +1,0 @@
-use Rattle.store_images.proofs.Keeping.{loaded}
-use Rattle.store_images.proofs.laws.loaded_keeps_stored.Goals as goal
-
-pub returns : goal.returns
-returns c = loaded

@@ -1,5 +1,0 @@
-use Rattle.store_images.proofs.Keeping.{one_list}
-use Rattle.store_images.proofs.laws.one_stored_list.Goals as goal
-
-pub returns : goal.returns
-returns c = one_list

@@ -1,2 +1,0 @@
-pub mod OneHistory
-pub mod StayAlike

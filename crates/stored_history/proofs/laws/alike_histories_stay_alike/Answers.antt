@@ -1,8 +1,0 @@
-use Rattle.stored_history.proofs.StayAlike.{stay_alike, same_firsts}
-use Rattle.stored_history.proofs.laws.alike_histories_stay_alike.Goals as goal
-
-pub returns-clause-grown : goal.returns-clause-grown
-returns-clause-grown c = stay_alike
-
-pub returns-clause-firsts : goal.returns-clause-firsts
-returns-clause-firsts c = same_firsts

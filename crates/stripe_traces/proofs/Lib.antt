@@ -1,3 +1,0 @@
-mod ChosenLaws
-pub mod IdLaws
-mod RowLaws

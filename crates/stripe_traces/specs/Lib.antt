@@ -1,3 +1,0 @@
-pub mod Wanted
-pub mod Chosen
-pub mod Columns
