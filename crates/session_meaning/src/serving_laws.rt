@@ -33,10 +33,10 @@ pub fn numbers_are_given_once()
         → AreInARow (count_of (history_of first)) (given_numbers (map call_of entries)) }
 {}
 
-/// Which pushes of clients are refused by the store, and which are accepted. `before` and `after` are places on the one
-/// way that all calls lead, and `calls` lead to the first of them.
+/// Which pushes of clients are refused by the store, and which are accepted: `calls` are the first of all calls, and lead
+/// to `before`. That the push's own call comes next isn't said here; `legal` of `Ran` makes each call a step of the store.
 pub fn pushes_of_clients_have_their_causes()
-    // Refused, it has the cause that its reply names, where it was asked, and the history stays.
+    // Refused, it has the cause that its reply names, from `before` to some place with the same history.
     ensures refused { (told : Bool) (first last : At) (scripts : List (List Item))
         (answers : List Answered) (entries : List Entry) (reading : Reading) (moment : ℕ)
         (why : Refusal) → Ran told first scripts answers entries last
