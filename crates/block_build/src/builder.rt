@@ -9,16 +9,14 @@ ghost use Rattle.block_build.specs.Builders.{HasForm, IsWritten, Puts, Takes};
 
 use crate::building::BuiltBlock;
 use crate::placing::close;
-use crate::rows::{STRIPE_ROWS, earliest, form_of, ids_of, latest};
+use crate::rows::{earliest, form_of, ids_of, latest};
 use block_format::can_be_stripe;
-use block_info::StripeInfo;
+use block_info::{PAGE_SIZE, STRIPE_ROWS, StripeInfo};
 use block_stripes::write_refs;
 use row_refs::{RowRef, refs_of};
 use span_types::{Ids, Memory, Row, Rows};
 use std::alloc::Global;
 use std::mem;
-
-const PAGE_BYTES: usize = 4096;
 
 /// A block to which rows are added in block order. What it has taken, contracts say by `Takes`.
 ///
@@ -156,7 +154,7 @@ fn entry_of(rows: &[RowRef<'_>], stripe: &[u8]) -> StripeInfo
 {
     StripeInfo {
         page: 0,
-        pages: (stripe.len() / PAGE_BYTES) as u64,
+        pages: (stripe.len() / PAGE_SIZE) as u64,
         rows: rows.len() as u32,
         earliest: earliest(rows),
         latest: latest(rows),

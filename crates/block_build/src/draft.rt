@@ -8,14 +8,12 @@ ghost use Rattle.block_format.specs.Headers.{header_pages};
 ghost use Rattle.block_stripes.specs.StripeReadings.{ascend};
 ghost use Rattle.block_stripes.specs.Stripes.{can_be_stripe, is_extended};
 
-use crate::rows::{STRIPE_ROWS, earliest, latest, stripe_rows};
-use block_info::StripeInfo;
+use crate::rows::{earliest, latest, stripe_rows};
+use block_info::{PAGE_SIZE, STRIPE_ROWS, StripeInfo};
 use block_stripes::write_refs;
 use row_refs::RowRef;
 use span_types::Memory;
 use std::alloc::Global;
-
-const PAGE_BYTES: usize = 4096;
 
 /// The pages of a header, which are zeros so far, and those of the stripes after them, with the stripes' entries.
 #[derive(Drop)]
@@ -34,7 +32,7 @@ pub fn draft_of(alloc: Global, rows: &[RowRef<'_>], form: u8) -> Result<Draft, M
 {
     let count = stripe_count(rows);
     let front = header_pages(count);
-    let mut bytes = zeros(alloc, front * PAGE_BYTES)?;
+    let mut bytes = zeros(alloc, front * PAGE_SIZE)?;
     let mut stripes = Vec::with_capacity(alloc, count)?;
     for number in 0..count {
         let taken = stripe_rows(rows, number);
@@ -64,7 +62,7 @@ pub fn header_pages(stripes: usize) -> usize
     ensures pages { result ≡ header_pages stripes }
     ensures few { result ≤ 33 }
 {
-    (20 + 32 * stripes).div_ceil(PAGE_BYTES)
+    (20 + 32 * stripes).div_ceil(PAGE_SIZE)
 }
 
 /// Adds the stripe of these rows to whole pages, and gives its entry.
@@ -80,14 +78,14 @@ fn put_stripe(
         (λ entry. AddsStripe form rows.now bytes.old.items bytes.new.items entry) }
 {
     let stripe = write_refs(alloc, rows, form)?;
-    let page = bytes.len() / PAGE_BYTES;
+    let page = bytes.len() / PAGE_SIZE;
     bytes.extend_from_slice(stripe.as_slice())?;
     let first = earliest(rows);
     let last = latest(rows);
     moments_fit(first, last);
     Ok(StripeInfo {
         page: page as u64,
-        pages: (stripe.len() / PAGE_BYTES) as u64,
+        pages: (stripe.len() / PAGE_SIZE) as u64,
         rows: rows.len() as u32,
         earliest: first,
         latest: last,

@@ -12,19 +12,12 @@ ghost use Rattle.block_build.specs.Places.{placed};
 use crate::building::BuiltBlock;
 use crate::draft::header_pages;
 use block_format::{Header, header_is_pages, write_header};
-use block_info::{StripeInfo, Stripes};
+use block_info::{MOST_BLOCK_ROWS, MOST_PAGES, MOST_STRIPES, StripeInfo, Stripes};
 use block_rows::{info_of, tail_of};
 use span_types::{Bytes, Ids, Memory, TraceId};
 use std::alloc::Global;
 
-/// The most stripes that a block has.
-const MOST_STRIPES: usize = 4096;
-
-/// The most rows that a block has.
-const MOST_ROWS: usize = 1_048_576;
-
-/// The page after which no stripe ends.
-const MOST_PAGES: u64 = 2_251_799_813_685_248;
+const MOST_ROWS: usize = MOST_BLOCK_ROWS as usize;
 
 /// The block of rows with these trace ids, of which these are the stripes. The pages in their entries aren't read.
 pub fn close(

@@ -4,12 +4,10 @@ ghost use Rattle.std.specs.Prelude.{◌≡◌, ◌*◌, ◌<◌, ◌≤◌, IfOk
 ghost use Rattle.std.specs.List.{All, list_any};
 ghost use Rattle.block_format.specs.Blocks.{IsEarliest, IsLatest, form_of_rows, ids_of, is_rich};
 
+use block_info::STRIPE_ROWS;
 use row_refs::RowRef;
 use span_types::{Ids, Memory, TraceId};
 use std::alloc::Global;
-
-/// How many rows each stripe but the last has.
-pub const STRIPE_ROWS: usize = 256;
 
 /// The form of a block of these rows: 2 where one has an event or a link, else 1.
 pub fn form_of(rows: &[RowRef<'_>]) -> u8

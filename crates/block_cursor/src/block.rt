@@ -8,15 +8,13 @@ ghost use Rattle.block_read.specs.Answers.{made_of};
 ghost use Rattle.block_read.specs.BlockReadings.{listed_at};
 ghost use Rattle.block_read.specs.Files.{part_of};
 
-use block_info::BlockInfo;
+use block_info::{BlockInfo, PAGE_BYTES};
 use block_read::check_bytes;
 use block_stripes::{held_is_read, read_stripe};
 use span_fields::Break;
 use span_types::{Bytes, Memory, Row};
 use std::alloc::Global;
 use std::marker::Model;
-
-const PAGE_BYTES: u64 = 4096;
 
 /// The bytes of a block that were checked. Contracts see its rows, which aren't in memory.
 #[derive(Drop)]

@@ -4,14 +4,12 @@ ghost use Rattle.std.specs.Prelude.{◌≡◌, ◌<◌, ◌≤◌, [], IfOk, IfS
 ghost use Rattle.block_cursor.specs.Wholes.{BeginsWith, TakesFirst};
 
 use crate::block::ReadBlock;
+use block_info::MOST_STRIPES;
 use span_types::{Memory, Row, TraceId};
 use std::alloc::Global;
 use std::collections::VecDeque;
 use std::marker::Model;
 use std::mem;
-
-/// How many stripes a block has at most.
-const MOST_STRIPES: usize = 4096;
 
 /// The rows of a block that aren't taken yet. A stripe of them is in memory at once.
 #[derive(Drop)]

@@ -7,7 +7,7 @@ ghost use Rattle.block_format.specs.Headers.{ReadsHeader, header_pages};
 ghost use Rattle.block_format.specs.HeaderReadings.{counts_at, entries_at, entry_at, form_at, has_rows, header_at, is_in_reach, number32_at, number64_at, passing, sizes_at};
 
 use crate::{FormatError, Header};
-use block_info::{StripeInfo, Stripes};
+use block_info::{MOST_PAGES, MOST_STRIPES, PAGE_BYTES, StripeInfo, Stripes};
 use block_stripes::unfilled;
 use byte_fields::{FieldError, Reader};
 use span_fields::{Break, fixed64};
@@ -18,9 +18,6 @@ const TAG_1: u32 = 826_430_292;
 
 /// `TSB2`, as a number of four bytes, little-endian.
 const TAG_2: u32 = 843_207_508;
-
-/// The page at which the last stripe ends at most, 2^51.
-const PAGE_LIMIT: u64 = 2_251_799_813_685_248;
 
 /// The fields of a header before its entries.
 #[derive(Clone, Copy, Debug, PartialEq, Eq)]
@@ -120,7 +117,7 @@ fn sizes(reader: &mut Reader) -> Result<(u32, u32), Break>
     if u64::from(pages) != header_pages(stripes) {
         return Err(Break::At(pages_at));
     }
-    if stripes < 1 || stripes > 4096 {
+    if stripes < 1 || stripes > MOST_STRIPES as u32 {
         return Err(Break::At(stripes_at));
     }
     Ok((pages, stripes))
@@ -130,7 +127,7 @@ fn sizes(reader: &mut Reader) -> Result<(u32, u32), Break>
 fn header_pages(stripes: u32) -> u64
     ensures { result ≡ header_pages stripes }
 {
-    (20 + 32 * u64::from(stripes)).div_ceil(4096)
+    (20 + 32 * u64::from(stripes)).div_ceil(PAGE_BYTES)
 }
 
 #[tactic(auto, unfolding(crate::specs::HeaderReadings::counts_at))]
@@ -162,7 +159,7 @@ fn stripe_pages(reader: &mut Reader, page: u64) -> Result<u64, Break>
 {
     let at = reader.at();
     let pages = number64(reader)?;
-    if pages > PAGE_LIMIT - page {
+    if pages > MOST_PAGES - page {
         return Err(Break::At(at));
     }
     Ok(pages)

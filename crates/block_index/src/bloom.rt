@@ -6,10 +6,9 @@ ghost use Rattle.block_index.specs.Index.{traces};
 
 use crate::entries::{IndexEntry, entries_of};
 use crate::hash::{fnv1a, second_hash_of};
+use block_info::PAGE_SIZE;
 use span_types::{Bytes, Ids, Memory, TraceId};
 use std::alloc::Global;
-
-const PAGE_BYTES: usize = 4096;
 
 const PAGE_BITS: u64 = 32768;
 
@@ -25,7 +24,7 @@ pub fn bloom_pages(alloc: Global, ids: &Ids) -> Result<Bytes, Memory>
 {
     let entries = entries_of(alloc, ids.as_slice())?;
     let pages = entries.len().div_ceil(TRACES_A_PAGE);
-    let mut bytes = vec![in alloc; 0; pages * PAGE_BYTES]?;
+    let mut bytes = vec![in alloc; 0; pages * PAGE_SIZE]?;
     set_all(&mut bytes, pages as u64, &entries);
     Ok(Bytes::of(bytes))
 }

@@ -8,6 +8,9 @@ ghost use Rattle.block_index.specs.Index.{entries, is_same};
 use span_types::{Memory, TraceId};
 use std::alloc::Global;
 
+/// How many entries a page of the index holds.
+pub const ENTRIES_A_PAGE: usize = 170;
+
 /// A trace of a block, and where its rows are.
 #[derive(Clone, Copy, Debug, PartialEq, Eq)]
 pub struct IndexEntry {

@@ -4,12 +4,10 @@ ghost use Rattle.std.specs.Prelude.{◌≡◌, ◌++◌, ◌*◌, ◌^◌, ◌<�
 ghost use Rattle.std.specs.List.{flat_map};
 ghost use Rattle.block_index.specs.Index.{entry_bytes, index_bytes, index_page};
 
-use crate::entries::{IndexEntry, entries_of};
+use crate::entries::{ENTRIES_A_PAGE, IndexEntry, entries_of};
 use byte_fields::Writer;
 use span_types::{Bytes, Ids, Memory};
 use std::alloc::Global;
-
-const ENTRIES_A_PAGE: usize = 170;
 
 /// The index of a block, in whole pages of 170 entries: for each trace its id, the number of its first row and how many
 /// rows it has.

@@ -6,11 +6,9 @@ ghost use Rattle.span_types.specs.Promises.{all_zero};
 ghost use Rattle.block_index.specs.Index.{entries_on, entry_at, entry_of};
 ghost use Rattle.block_index.specs.Found.{found, outcome};
 
-use crate::entries::IndexEntry;
+use crate::entries::{ENTRIES_A_PAGE, IndexEntry};
 use span_types::TraceId;
 use std::cmp::Ordering;
-
-const ENTRIES_A_PAGE: usize = 170;
 
 /// Where a trace is, by one page of the index.
 #[derive(Clone, Copy, Debug, PartialEq, Eq)]

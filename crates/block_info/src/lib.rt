@@ -4,5 +4,7 @@
 #![tactic(auto)]
 
 mod info;
+mod limits;
 
 pub use info::{BlockInfo, Infos, SharedInfo, StripeInfo, Stripes};
+pub use limits::{MOST_BLOCK_ROWS, MOST_PAGES, MOST_STRIPES, PAGE_BYTES, PAGE_SIZE, STRIPE_ROWS};

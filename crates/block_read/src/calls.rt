@@ -19,12 +19,10 @@ use crate::file::{Unread, bytes_from};
 use crate::lookup::find_trace;
 use crate::traces::rows_at;
 use crate::{Pages, ReadError};
-use block_info::BlockInfo;
+use block_info::{BlockInfo, PAGE_BYTES};
 use span_fields::Break;
 use span_types::{Rows, TraceId};
 use std::alloc::Global;
-
-const PAGE_BYTES: u64 = 4096;
 
 /// All rows of a block, in block order. It has as many pages as its information says, and each is read once.
 ///

@@ -8,10 +8,9 @@ ghost use Rattle.block_read.specs.Files.{first_bytes, page_of, part_of};
 ghost use Rattle.block_read.specs.PageReads.{OnlyReads};
 
 use crate::Pages;
+use block_info::PAGE_BYTES;
 use span_types::Failed;
 use std::alloc::Global;
-
-const PAGE_BYTES: u64 = 4096;
 
 /// Why the bytes of a file could not be read.
 #[derive(Clone, Copy, Debug, PartialEq, Eq)]

@@ -7,12 +7,11 @@ ghost use Rattle.block_format.specs.Headers.{CanBeHeader};
 ghost use Rattle.block_read.specs.BlockReadings.{common, differs_at, indexed, tail_bytes};
 
 use block_format::Header;
+use block_info::PAGE_BYTES;
 use block_rows::{index_page, tail_of};
 use span_fields::Break;
 use span_types::Ids;
 use std::alloc::Global;
-
-const PAGE_BYTES: u64 = 4096;
 
 /// Whether the header counts the pages of the index and of the Bloom filters of rows with these trace ids right, and
 /// whether these come after the stripes, up to the end of the bytes.

@@ -15,13 +15,11 @@ use crate::file::{Unread, bytes_from};
 use crate::kept::keep;
 use crate::stripes::stripe;
 use crate::{Pages, ReadError};
-use block_info::StripeInfo;
+use block_info::{PAGE_BYTES, StripeInfo};
 use span_fields::Break;
 use span_types::{Row, Rows, TraceId};
 use std::alloc::Global;
 use stripe_traces::{StripeTraces, traces_of_stripe};
-
-const PAGE_BYTES: u64 = 4096;
 
 /// Those rows of a stripe of a block that are of these traces, whose ids ascend, and the trace of the stripe's last row.
 ///

@@ -15,14 +15,12 @@ ghost use Rattle.block_read.specs.Files.{part_of};
 
 use crate::file::{each_fits, part};
 use block_format::{FormatError, Header};
-use block_info::StripeInfo;
+use block_info::{PAGE_BYTES, StripeInfo};
 use block_stripes::{read_is_held, read_size, read_starts, read_stripe};
 use byte_fields::Reader;
 use span_fields::{Break, fixed64};
 use span_types::{Memory, Row, TryCopy};
 use std::alloc::Global;
-
-const PAGE_BYTES: u64 = 4096;
 
 /// The rows of all stripes of a block.
 pub fn stripes(alloc: Global, bytes: &[u8], header: &Header) -> Result<Vec<Row>, Break>

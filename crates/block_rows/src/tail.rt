@@ -6,10 +6,9 @@ ghost use Rattle.std.specs.List.{All};
 ghost use Rattle.block_rows.specs.Tails.{IsTailOf};
 
 use block_index::{bloom_pages, filters_hold_their_traces, index_pages};
+use block_info::PAGE_SIZE;
 use span_types::{Bytes, Ids, Memory};
 use std::alloc::Global;
-
-const PAGE_BYTES: usize = 4096;
 
 /// What comes after the stripes of a block, in whole pages of 4,096 bytes.
 #[derive(Debug, Drop)]
@@ -35,9 +34,9 @@ pub fn tail_of(alloc: Global, ids: &Ids) -> Result<Tail, Memory>
     let bloom = bloom_pages(alloc, ids)?;
     filters_hold_their_traces();
     Ok(Tail {
-        index_pages: (index.len() / PAGE_BYTES) as u32,
+        index_pages: (index.len() / PAGE_SIZE) as u32,
         index,
-        bloom_pages: (bloom.len() / PAGE_BYTES) as u32,
+        bloom_pages: (bloom.len() / PAGE_SIZE) as u32,
         bloom,
     })
 }

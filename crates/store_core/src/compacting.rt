@@ -21,6 +21,7 @@ ghost use Rattle.store_core.specs.Cores.{CoreShows, CoreStandsFor, HasState};
 ghost use Rattle.store_core.specs.Events.{Did};
 
 use crate::committing::rows_in;
+use crate::jobs::LAST_FILE;
 use crate::pins::{free_number, give_back, take_files, take_number};
 use crate::room::CommitRoom;
 use crate::state::{CoreState, files_of};
@@ -31,9 +32,6 @@ use disk_model::{Device, cut_through};
 use span_types::{Memory, TryCopy};
 use std::alloc::Global;
 use store_state::{BeginError, CompactJob, JobFile, Pin, WriteError, a_choice_is_few, choose};
-
-/// The first file number that no job gets any more.
-const LAST_FILE: u32 = 4_294_967_294;
 
 impl CoreState {
     /// The positions in the list of the blocks that a compaction joins now, and none where there are no such blocks, or why none

@@ -15,17 +15,13 @@ ghost use Rattle.store_core.specs.Cores.{CoreShows, HasState};
 ghost use Rattle.store_core.specs.Events.{Did};
 ghost use Rattle.store_core.specs.Beginning.{MayBegin, unless_rows};
 
+use crate::jobs::LAST_FILE;
 use crate::making::make_files;
 use crate::state::CoreState;
 use crate::store::Core;
+use block_info::MOST_BLOCK_ROWS;
 use disk_model::Device;
 use store_state::{BeginError, FlushJob, JobFile, WriteError};
-
-/// How many rows a flush takes at most.
-const MOST_ROWS: u32 = 1_048_576;
-
-/// The first file number that no job gets any more.
-const LAST_FILE: u32 = 4_294_967_294;
 
 impl CoreState {
     /// Whether there are rows for a flush, or why none begins: in this order the store is read-only, a flush is open, the head is
@@ -108,7 +104,7 @@ impl<D: Device> Core<D> {
         let Ok(room) = self.state.jobs.make_room(self.alloc, &self.state.list) else {
             return Err(BeginError::Memory);
         };
-        let Ok(rows) = self.state.live.take_head(MOST_ROWS) else {
+        let Ok(rows) = self.state.live.take_head(MOST_BLOCK_ROWS) else {
             return Err(BeginError::Memory);
         };
         let files = self.state.jobs.next_files();

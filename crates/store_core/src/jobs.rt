@@ -13,6 +13,9 @@ use span_types::Memory;
 use std::alloc::Global;
 use store_state::{FlushFiles, MOST_LISTED};
 
+/// The first file number that no job gets any more.
+pub(crate) const LAST_FILE: u32 = 4_294_967_294;
+
 /// An open flush.
 #[derive(Drop)]
 pub struct OpenFlush {

@@ -7,11 +7,10 @@ ghost use Rattle.store_model.specs.Choice.{choice, most_rows};
 ghost use Rattle.store_state.specs.Listed.{ref_of, picked, Ascend};
 ghost use Rattle.store_state.specs.Pairing.{IsPairing, from_pair, joined_at, pair_at};
 
+use block_info::MOST_BLOCK_ROWS;
 use block_list::BlockRef;
 use span_types::Memory;
 use std::alloc::Global;
-
-const MOST_ROWS: u32 = 1_048_576;
 
 // Blocks of level 63 are joined no more.
 const LEVELS: u8 = 63;
@@ -73,7 +72,7 @@ fn met(pairing: Pairing, at: usize, block: &BlockRef) -> Pairing
 fn is_partner(level: u8, rows: u32, block: &BlockRef) -> bool
     ensures { result ≡ ((block.now.level == level) && nat_le (block.now.rows + rows) most_rows) }
 {
-    block.level == level && u64::from(block.rows) + u64::from(rows) <= u64::from(MOST_ROWS)
+    block.level == level && u64::from(block.rows) + u64::from(rows) <= u64::from(MOST_BLOCK_ROWS)
 }
 
 fn lesser(level: u8, rows: u32, block: &BlockRef) -> u32
@@ -99,7 +98,7 @@ fn first_pair(level: u8, blocks: &[BlockRef]) -> Option<usize>
 {
     let mut pairing = Pairing {
         level,
-        smallest: MOST_ROWS + 1,
+        smallest: MOST_BLOCK_ROWS + 1,
         found: None,
     };
     let mut at = blocks.len();
@@ -159,7 +158,7 @@ fn with_partners(
     chosen.push(start)?;
     let mut joining = Joining {
         level,
-        room: MOST_ROWS.saturating_sub(blocks[start].rows),
+        room: MOST_BLOCK_ROWS.saturating_sub(blocks[start].rows),
         left: 3,
         chosen,
     };
