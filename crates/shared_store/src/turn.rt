@@ -10,10 +10,15 @@ use crate::known::{Known, Turns};
 use crate::plays::{Append, Free, Says, Win};
 use atomic_table::{Seat, Shared, Table};
 use std::alloc::Global;
+use std::hint::spin_loop;
 use std::marker::Brand;
 use std::snapshot::Snapshot;
 use std::sync::Wait;
 use store_state::LookPort;
+
+/// How often a seat looks whether the turn is free again before it sleeps: for some microseconds. Most calls are over by then, and to
+/// fall asleep and be woken takes longer.
+const LOOKS: u32 = 100;
 
 // The table that seats share.
 pub(crate) type Board<Q> = Table<Option<Q>, Known<Q>, Snapshot<Q>, Turns<Q>, Global>;
@@ -37,9 +42,24 @@ pub(crate) fn take<Q: LookPort, R: Wait>(rt: &R, top: &Top<Q>, place: &mut Place
         if top.compare_exchange::<Win>(place, 0, 0, 1) == 0 {
             return top.exchange(place, 0, None).unwrap();
         }
-        top.park(rt, 0, 1);
+        if !is_soon_free(top) {
+            top.park(rt, 0, 1);
+        }
     }
     unreachable!()
+}
+
+// Whether the turn is seen to be free while it is looked at a few times. Another seat may win it all the same.
+fn is_soon_free<Q: LookPort>(top: &Top<Q>) -> bool
+    requires { 0 < top.now.table_id.words }
+{
+    for _ in 0..LOOKS {
+        if top.peek(0) == 0 {
+            return true;
+        }
+        spin_loop();
+    }
+    false
 }
 
 // Appends a call that was made on the port while the seat had the turn. `port` is what the call left.
