@@ -18,4 +18,4 @@ loop-one-preserved g c = (
 )
 
 pub returns : goal.returns
-returns g c = made_end row_of c.loop-one.rows.items _ _ c.in-None.ensures c.loop-one.invariant.0
+returns g c = made_end row_of c.loop-one.rows.items _ _ c.in_default.ensures c.loop-one.invariant.0

@@ -10,4 +10,4 @@ pub loop-one-preserved : goal.loop-one-preserved
 loop-one-preserved g c = made_go start_of c.loop-one.starts.items _ _ _ c.in-Some.one c.start.result _ c.in-Some.ensures c.start.ensures c.in_ok-push.ensures.items c.loop-one.invariant
 
 pub returns : goal.returns
-returns g c = made_end start_of c.loop-one.starts.items _ _ c.in-None.ensures c.loop-one.invariant
+returns g c = made_end start_of c.loop-one.starts.items _ _ c.in_default.ensures c.loop-one.invariant
