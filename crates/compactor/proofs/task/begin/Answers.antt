@@ -3,7 +3,7 @@ use Rattle.std.specs.Prelude.{IsTrue, ◌||◌, Option, Some, None, Ok, IfSome}
 use Rattle.store_model.specs.Event.Event.{BeginCompact}
 use Rattle.store_model.specs.Event.{Reply as reply}
 use Rattle.store_model.specs.Holds.{Hold}
-use Rattle.store_state.specs.Given.{compact_of, info_files, compact_parts}
+use Rattle.store_state.specs.Given.{compact_of, compact_parts}
 use Rattle.store_state.specs.Made.{call}
 use Rattle.store_state.specs.Meaning.{Meaning, Called}
 use Rattle.store_state.specs.Replies.{begin_compact_reply, begin_refusal}
