@@ -1,9 +1,7 @@
 -- How calls of a port follow one another.
 use Rattle.std.proofs.Common.{◌≡◌, List, [], ◌∷◌, ◌++◌, refl, sym, ◌∙◌, ap, subst, append-nil, append_assoc}
-use Rattle.compactor.specs.Tasks.{Known}
 use Rattle.store_model.specs.Holds.{Hold, holds_after}
-use Rattle.store_model.specs.Event.{Event as event, Reply as reply}
-use Rattle.store_state.specs.Meaning.{Meaning, Called}
+use Rattle.store_state.specs.Meaning.{Meaning}
 use Rattle.client_run.specs.declared.event.Event.{Event}
 use Rattle.client_run.specs.declared.event.EventReply.{EventReply}
 use Rattle.store_state.specs.Made.{Call, AreMade}
@@ -24,14 +22,6 @@ pub holds_kept : {P : Type 0} (meaning : Meaning P) (old new : P) (calls : List 
     → (held : List Hold) × meaning.holds new held
 holds_kept {P} meaning old new [] made h = subst (λ (x : P). (held : List Hold) × meaning.holds x held) (sym made) h
 holds_kept meaning old new (c ∷ cs) made h = holds_kept meaning made.0 new cs made.2 (holds_after c.event c.reply h.0, made.1.holds h.0 h.1)
-
--- it knows a history after a call, if it knew one
-pub known_after : {P : Type 0} (meaning : Meaning P) (old new : P) (e : event) (r : reply) → Called meaning old e r new → Known meaning old → Known meaning new
-known_after meaning old new e r called known = (let after = called.learns known.0 known.1 in (after.0, after.1))
-
-pub known_kept : {P : Type 0} (meaning : Meaning P) (old new : P) (calls : List Call) → AreMade meaning old calls new → Known meaning old → Known meaning new
-known_kept {P} meaning old new [] made known = subst (Known meaning) (sym made) known
-known_kept meaning old new (c ∷ cs) made known = known_kept meaning made.0 new cs made.2 (known_after meaning old made.0 c.event c.reply made.1 known)
 
 -- and whether it shows its bytes stays as it is
 pub tells_kept : {P : Type 0} (meaning : Meaning P) (old new : P) (calls : List Call) → AreMade meaning old calls new → meaning.tells new ≡ meaning.tells old

@@ -4,7 +4,7 @@ use Rattle.std.specs.Prelude.{IsTrue}
 use Rattle.compactor.specs.Rounds.{Leads, Stage}
 use Rattle.compactor.specs.Rounds.{Stage as stage}
 use Rattle.compactor.specs.Rounds.{Leads as lead}
-use Rattle.compactor.specs.Tasks.{Answers, FindsBlocks, Fits, Known, OneEvent, Steps, Task, stage_of}
+use Rattle.compactor.specs.Tasks.{Answers, FindsBlocks, Fits, OneEvent, Steps, Task, stage_of}
 use Rattle.compactor.specs.Tasks.Task.{Fresh, Reading, Writing, Failing, Ended}
 use Rattle.store_model.specs.Event.{Event as event, Reply as reply}
 use Rattle.store_model.specs.Holds.{Hold, holds_after}
@@ -27,7 +27,6 @@ use Rattle.client_run.specs.declared.tasks.Tasks.{Tasks}
 use Rattle.client_run.specs.EventRuns.{FoundBlock, compaction_end, from_there, step_reply}
 use Rattle.client_run.specs.OwnFiles.{HaveOwnFiles}
 use Rattle.client_run.specs.Taken.{HasAnswered, IsCompacting, IsReady, looks_of}
-use Rattle.client_run.proofs.CallLemmas.{known_after}
 use Rattle.client_run.proofs.JobLemmas.{EndsNoFlush, Untouched, flush_stays}
 use Rattle.client_run.proofs.StepLemmas.{IsOther, LeavesLooks, other_first, refused_apart, same_looks, written_apart}
 
@@ -151,7 +150,7 @@ one_event meaning old new (Ended r) after going steps = absurd going
 answered_by : {P : Type 0} (meaning : Meaning P) (old new : P) (items : List (Option Look)) (tasks : Tasks) (after last : Task) (told : EventReply)
     → HaveOwnFiles meaning old → IsReady meaning old (looks_of items) tasks → OneEvent meaning tasks.compaction old after new → told ≡ step_reply (compaction_end (stage_of after))
     → stage_of last ≡ from_there stage.Fresh (stage_of after) (compaction_end (stage_of after)) → Fits meaning last new → IsCompacting last
-    → (Known meaning old → FindsBlocks meaning tasks.compaction old → FindsBlocks meaning last new × (IsTrue (meaning.tells new) → FoundBlock told))
+    → (FindsBlocks meaning tasks.compaction old → FindsBlocks meaning last new × (IsTrue (meaning.tells new) → FoundBlock told))
     → HasAnswered meaning old (looks_of items) tasks CompactStep told new (looks_of items) (record { flush = tasks.flush; compaction = last })
 answered_by meaning old new items tasks after last told own ready one is left fits going found =
     let some = leads_somewhere (stage_of after) in
@@ -167,7 +166,7 @@ answered_by meaning old new items tasks after last told own ready one is left fi
         fits,
       );
       going = (ready.going.0, going);
-      found = λ known find. (let finds = found known find.1 in ((find.0, finds.0), finds.1));
+      found = λ find. (let finds = found find.1 in ((find.0, finds.0), finds.1));
     }
 
 -- A step that ended the round leaves a compaction that has made none.
@@ -180,10 +179,7 @@ has_ended_compaction meaning old new items tasks after next r own steps finds en
     let holds : (held : List Hold) × meaning.holds new held = (holds_after one.made.event one.made.reply ready.holds.0, one.called.holds ready.holds.0 ready.holds.1) in
     subst (λ (t : Task). HasAnswered meaning old (looks_of items) tasks CompactStep (Stepped (step.Ended r)) new (looks_of items) (record { flush = tasks.flush; compaction = t })) (sym begins)
     (answered_by meaning old new items tasks (Ended r) Fresh (Stepped (step.Ended r)) own ready one refl refl holds tt
-    (λ known find. (
-      known_after meaning old new one.made.event one.made.reply one.called known,
-      subst (λ (t : Task). FindsBlocks meaning t new) ended (finds find),
-    )))
+    (λ find. (tt, subst (λ (t : Task). FindsBlocks meaning t new) ended (finds find))))
 
 more : (t : Task) → Answers step.More t → (Stepped step.More ≡ step_reply (compaction_end (stage_of t))) × (stage_of t ≡ from_there stage.Fresh (stage_of t) (compaction_end (stage_of t))) × IsCompacting t
 more Fresh h = (refl, refl, tt)
@@ -200,4 +196,4 @@ pub compaction_goes_on : {P : Type 0} (meaning : Meaning P) (old new : P) (items
 compaction_goes_on meaning old new items tasks after own steps fits finds answers ready =
     let goes = more after answers in
     answered_by meaning old new items tasks after after (Stepped step.More) own ready (one_event meaning old new tasks.compaction after ready.going.1 steps) goes.0 goes.1 fits goes.2
-    (λ known find. (finds find, λ tells. tt))
+    (λ find. (finds find, λ tells. tt))

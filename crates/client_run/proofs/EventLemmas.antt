@@ -39,7 +39,7 @@ one_call meaning old new e r looks later tasks asked answer ready finds called l
   left = left;
   fit = still_fit meaning old new e r tasks called leaves ready.holds ready.fit;
   going = ready.going;
-  found = λ known find. (still_finds meaning old new e r tasks called leaves ready.fit find, λ tells. finds);
+  found = λ find. (still_finds meaning old new e r tasks called leaves ready.fit find, λ tells. finds);
 }
 
 -- a call that ends no look and gives none
@@ -134,7 +134,7 @@ idle meaning port looks later tasks asked ready answered left = record {
   left = left;
   fit = ready.fit;
   going = ready.going;
-  found = λ known find. (find, λ tells. tt);
+  found = λ find. (find, λ tells. tt);
 }
 
 pub is_idle : {P : Type 0} (meaning : Meaning P) (port : P) (number : ℕ) (looks later : Looks) (tasks : Tasks) → IsReady meaning port looks tasks

@@ -111,7 +111,7 @@ is_of s c calls r (lead.dropped number why) = record {
 -- ---- no block is found to be none
 
 -- A flush reads no block, so its round doesn't end because one is none.
-found_by : {calls : List Call} {r : Round} (s : Stage) → Leads s calls r → FlushFinds s → FoundBlocks r
+pub found_by : {calls : List Call} {r : Round} (s : Stage) → Leads s calls r → FlushFinds s → FoundBlocks r
 found_by s lead.nothing finds = tt
 found_by s (lead.no_job why) finds = begin_found why
 found_by s (lead.job number file rows h) finds = found_by (stage.Begun number file rows) h tt
@@ -175,7 +175,7 @@ answered_by meaning old new items tasks after last told own ready one is left fi
         compaction_stays meaning old new one.made.event one.made.reply tasks.compaction one.called of.compactions untouched ready.holds ready.fit.1,
       );
       going = (going, ready.going.1);
-      found = λ known find.
+      found = λ find.
           let finds = found (finds_on (stage_of tasks.flush) (stage_of after) one.made one.leads find.0) in
           ((finds.0, finds_after meaning old new one.made.event one.made.reply tasks.compaction one.called of.compactions untouched ready.fit.1 find.1), λ tells. finds.1);
     }

@@ -22,7 +22,6 @@ use Rattle.store_state.specs.declared.jobs.CompactJob.{CompactJob}
 use Rattle.store_state.specs.declared.jobs.FlushJob.{FlushJob}
 use Rattle.client_run.specs.Taken.{FindBlocks, Fit}
 use Rattle.client_run.specs.declared.tasks.Tasks.{Tasks}
-use Rattle.client_run.proofs.CallLemmas.{known_after}
 
 -- the call writes nothing to the file
 abbrev pub Untouched : event → reply → ℕ → Type 0
@@ -129,7 +128,7 @@ compaction_stays meaning old new e r (compacting.Ended round) called none same h
 -- A call that isn't the compaction's own changes none of the blocks that it reads.
 pub finds_after : {P : Type 0} (meaning : Meaning P) (old new : P) (e : event) (r : reply) (task : CompactTask) → Called meaning old e r new → EndsNoCompaction e r
     → LeavesBlocks meaning old e r → compaction.Fits meaning task old → compaction.FindsBlocks meaning task old → compaction.FindsBlocks meaning task new
-finds_after meaning old new e r compacting.Fresh called none same fits known = known_after meaning old new e r called known
+finds_after meaning old new e r compacting.Fresh called none same fits found = tt
 finds_after meaning old new e r (compacting.Reading job parts pages bytes) called none same fits are = λ tells.
     let ends_not = none (compact_parts job) in
     blocks_told (meaning.shows old) (meaning.shows new) job

@@ -11,7 +11,7 @@ use Rattle.client_run.specs.declared.tasks.Tasks.{Tasks}
 use Rattle.client_run.specs.Calls.{Looks, after_calls}
 use Rattle.client_run.specs.EventRuns.{FoundBlock, HasRun, HasRunFirst, IsEventAnswered, no_step}
 use Rattle.client_run.specs.Taken.{AreOpen, HasAnswered, HasCome, IsReady, MayHaveAnswered, no_steps, stages_of}
-use Rattle.client_run.proofs.CallLemmas.{after-append, answered-push, holds_kept, known_kept, made-append, tells_kept}
+use Rattle.client_run.proofs.CallLemmas.{after-append, answered-push, holds_kept, made-append, tells_kept}
 use Rattle.client_run.proofs.LookLemmas.{open_after}
 
 pub run_begins : {P : Type 0} (meaning : Meaning P) (port : P) → ((held : List Hold) × meaning.holds port held) → HasCome meaning port [] [] port [] no_steps
@@ -21,7 +21,7 @@ run_begins meaning port holds = record {
   answered = (refl, refl, refl);
   left = refl;
   ready = record { holds = holds; open_looks = tt; fit = (holds, holds); going = (tt, tt) };
-  found = λ known. ((tt, known), λ tells. tt);
+  found = ((tt, tt), λ tells. tt);
 }
 
 -- What is open after an event.
@@ -49,9 +49,9 @@ run_goes_on meaning old mid new events replies looks later tasks after e r come 
       (subst (λ (l : Looks). IsEventAnswered l (stages_of tasks) e r one.calls (stages_of after)) come.left one.answered);
   left = one.left ∙ (ap (after_calls one.calls) come.left ∙ sym (after-append come.calls one.calls []));
   ready = ready_then meaning mid new looks later tasks after e r come.ready one;
-  found = λ known.
-      let before = come.found known in
-      let behind = one.found (known_kept meaning old mid come.calls come.made known) before.0 in
+  found =
+      let before = come.found in
+      let behind = one.found before.0 in
       let still = tells_kept meaning mid new one.calls one.made ∙ tells_kept meaning old mid come.calls come.made in
       (behind.0, λ tells. found_more replies r (before.1 tells) (behind.1 (subst IsTrue (sym still) tells)));
 }
@@ -59,7 +59,7 @@ run_goes_on meaning old mid new events replies looks later tasks after e r come 
 pub has_run : {P : Type 0} (meaning : Meaning P) (old new : P) (events : List Event) (replies : List EventReply) (looks : Looks) (tasks : Tasks)
     → HasCome meaning old events replies new looks tasks → HasRun meaning old events replies new
 has_run meaning old new events replies looks tasks come =
-    record { calls = come.calls; made = come.made; stages = stages_of tasks; answered = come.answered; found = λ tells known. (come.found known).1 tells }
+    record { calls = come.calls; made = come.made; stages = stages_of tasks; answered = come.answered; found = come.found.1 }
 
 -- A run that stops at an event.
 pub stopped_at : {P : Type 0} (meaning : Meaning P) (old mid new : P) (events : List Event) (n : ℕ) (replies : List EventReply) (looks : Looks) (tasks : Tasks) (e : Event)

@@ -161,12 +161,18 @@ TellsHistory h later (request.Metrics m) r =
 TellsHistory h later request.Compact r = (round : Round) × (r ≡ compact_reply round) × FoundBlocks round
 TellsHistory h later _ r = Unit {0}
 
+-- It isn't told of a block that it is none.
+abbrev pub BlamesNoBlock : Reply → Type 0
+BlamesNoBlock (Refused (refusal.Round (round_refusal.NotBlock file at))) = ⊥
+BlamesNoBlock r = Unit {0}
+
 -- A request was answered over a port: the port's calls are just those that the request makes. Where the port shows its bytes, a
 -- query's answer is that of the history that is known afterwards, as it was at some length from that on which was known before; and
--- each block that was read is one.
+-- each block that was read is one, whether a history is known or not.
 pub record HasReplied {P : Type 0} (meaning : Meaning P) (old : P) (asked : Request) (r : Reply) (new : P) : Type 0 where
   pub calls : List Call
   pub made : AreMade meaning old calls new
   pub answered : IsRequestAnswered asked r calls
   pub told : IsTrue (meaning.tells old) → (v : View) → meaning.knows old v
       → KnowsLater meaning new v (λ later. TellsHistory v.history later asked r)
+  pub whole : IsTrue (meaning.tells old) → BlamesNoBlock r

@@ -3,7 +3,6 @@ use Rattle.std.specs.Prelude.{◌≡◌, ℕ, Bool, true, false, List, [], ◌�
 use Rattle.std.specs.List.{AllByRecursion}
 use Rattle.compactor.specs.Rounds.{FoundBlocks, Leads as CompactLeads, Stage as CompactStage}
 use Rattle.compactor.specs.Rounds.{Stage as compaction}
-use Rattle.compactor.specs.Tasks.{Known}
 use Rattle.flusher.specs.Rounds.{Leads as FlushLeads, Stage as FlushStage}
 use Rattle.flusher.specs.Rounds.{Stage as flush}
 use Rattle.span_types.specs.declared.errors.Failed.{Failed}
@@ -142,14 +141,13 @@ FoundBlock (Stepped (step.Ended round)) = FoundBlocks round
 FoundBlock _ = Unit {0}
 
 -- A list of events was run on a port: the port's calls are just those that the events make, in their order. At the end
--- the flush and the compaction for which steps were made are so far. Where bytes are told and a history was known, no step
--- ended a round because a block is none.
+-- the flush and the compaction for which steps were made are so far. Where bytes are told no step ended a round because a block is none.
 pub record HasRun {P : Type 0} (meaning : Meaning P) (old : P) (events : List Event) (replies : List EventReply) (new : P) : Type 0 where
   pub calls : List Call
   pub made : AreMade meaning old calls new
   pub stages : Stages
   pub answered : AreEventsAnswered [] no_step events replies calls stages
-  pub found : IsTrue (meaning.tells old) → Known meaning old → AllByRecursion FoundBlock replies
+  pub found : IsTrue (meaning.tells old) → AllByRecursion FoundBlock replies
 
 -- Of a list of events the first few were run, and no others.
 abbrev pub HasRunFirst : {P : Type 0} → Meaning P → P → List Event → P → Type 0

@@ -3,7 +3,7 @@
 use Rattle.std.specs.Prelude.{◌≡◌, ◌⊎◌, ⊤, ℕ, false, List, [], ◌∷◌, map, Option, Some, None, option_map, IsTrue}
 use Rattle.std.specs.List.{AllByRecursion}
 use Rattle.compactor.specs.Rounds.{FoundBlocks}
-use Rattle.compactor.specs.Tasks.{Known, Task as CompactTask}
+use Rattle.compactor.specs.Tasks.{Task as CompactTask}
 use Rattle.compactor.specs.Tasks as compaction
 use Rattle.compactor.specs.Tasks.{Task as compacting}
 use Rattle.flusher.specs.Rounds.{Stage as FlushStage}
@@ -91,8 +91,8 @@ pub record IsReady {P : Type 0} (meaning : Meaning P) (port : P) (looks : Looks)
   pub fit : Fit meaning tasks port
   pub going : AreGoing tasks
 
--- One event was answered so, and left these looks, this flush and this compaction. Where a history was known and neither of
--- the two finds a block to be none, neither does after it, and nor does its reply where bytes are shown.
+-- One event was answered so, and left these looks, this flush and this compaction. Where neither of the two finds a block to be none,
+-- neither does after it, and nor does its reply where bytes are shown.
 pub record HasAnswered {P : Type 0} (meaning : Meaning P) (old : P) (looks : Looks) (tasks : Tasks) (event : Event) (reply : EventReply) (new : P) (later : Looks) (after : Tasks) : Type 0 where
   pub calls : List Call
   pub made : AreMade meaning old calls new
@@ -100,7 +100,7 @@ pub record HasAnswered {P : Type 0} (meaning : Meaning P) (old : P) (looks : Loo
   pub left : later ≡ after_calls calls looks
   pub fit : Fit meaning after new
   pub going : AreGoing after
-  pub found : Known meaning old → FindBlocks meaning tasks old
+  pub found : FindBlocks meaning tasks old
       → FindBlocks meaning after new × (IsTrue (meaning.tells new) → FoundBlock reply)
 
 -- One event of which the reply wasn't told: it happened all the same, or it didn't.
@@ -115,5 +115,4 @@ pub record HasCome {P : Type 0} (meaning : Meaning P) (old : P) (events : List E
   pub answered : AreEventsAnswered [] no_step events replies calls (stages_of tasks)
   pub left : looks ≡ after_calls calls []
   pub ready : IsReady meaning new looks tasks
-  pub found : Known meaning old
-      → FindBlocks meaning tasks new × (IsTrue (meaning.tells old) → AllByRecursion FoundBlock replies)
+  pub found : FindBlocks meaning tasks new × (IsTrue (meaning.tells old) → AllByRecursion FoundBlock replies)

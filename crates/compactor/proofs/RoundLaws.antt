@@ -8,7 +8,7 @@ use Rattle.store_state.specs.declared.rounds.Step.TheVariants.{More}
 use Rattle.compactor.specs.Rounds.{FoundBlocks, IsCompactRound, Leads}
 use Rattle.compactor.specs.Rounds.{Stage as stage}
 use Rattle.compactor.specs.Rounds.Leads.{over}
-use Rattle.compactor.specs.Tasks.{Answers, FindsBlocks, Fits, Known, OneEvent, Steps, Task, stage_of, steps_left}
+use Rattle.compactor.specs.Tasks.{Answers, FindsBlocks, Fits, OneEvent, Steps, Task, stage_of, steps_left}
 use Rattle.compactor.specs.Tasks.Task.{Fresh, Reading, Writing, Failing, Ended}
 use Rattle.compactor.specs.Phases.{IsUnderWay}
 
@@ -21,7 +21,7 @@ by_event : {P : Type 0} (meaning : Meaning P) (start mid new : P) (task after : 
     → (FindsBlocks meaning task mid → FindsBlocks meaning after new) → IsUnderWay meaning start after new
 by_event meaning start mid new task after under one fits found = record {
   fits = fits;
-  found = λ known. found (under.found known);
+  found = found under.found;
   telling = one.called.telling ∙ under.telling;
   calls = under.calls ++ one.made ∷ [];
   made = made_more meaning start mid new under.calls one.made under.made one.called;
@@ -39,7 +39,7 @@ by_step {P} meaning start mid new (Ended round) after under one fits found =
     subst (λ (t : Task). IsUnderWay meaning start t new) (sym one.0) (subst (λ (p : P). IsUnderWay meaning start (Ended round) p) (sym one.1) under)
 
 pub nothing_made : {P : Type 0} (meaning : Meaning P) (port : P) → Fits meaning Fresh port → IsUnderWay meaning port Fresh port
-nothing_made meaning port fits = record { fits = fits; found = λ known. known; telling = refl; calls = []; made = refl; leads = λ more round h. h }
+nothing_made meaning port fits = record { fits = fits; found = tt; telling = refl; calls = []; made = refl; leads = λ more round h. h }
 
 pub all_made : {P : Type 0} (meaning : Meaning P) (start new : P) (task : Task) (round : Round) → IsUnderWay meaning start task new → task ≡ Ended round
     → (calls : List Call) × AreMade meaning start calls new × IsCompactRound calls round
@@ -49,10 +49,10 @@ all_made meaning start new task round under ended = (
   subst (λ (all : List Call). Leads stage.Fresh all round) (append-nil under.calls) (under.leads [] round (subst (λ (t : Task). Leads (stage_of t) [] round) (sym ended) (over round))),
 )
 
--- where bytes are told and a history was known, no block was found to be none
-pub none_found : {P : Type 0} (meaning : Meaning P) (start new : P) (task : Task) (round : Round) → IsUnderWay meaning start task new → task ≡ Ended round → IsTrue (meaning.tells start) → Known meaning start → FoundBlocks round
-none_found meaning start new task round under ended tells known =
-    (subst (λ (t : Task). FindsBlocks meaning t new) ended (under.found known)) (subst IsTrue (sym under.telling) tells)
+-- where bytes are told no block was found to be none
+pub none_found : {P : Type 0} (meaning : Meaning P) (start new : P) (task : Task) (round : Round) → IsUnderWay meaning start task new → task ≡ Ended round → IsTrue (meaning.tells start) → FoundBlocks round
+none_found meaning start new task round under ended tells =
+    (subst (λ (t : Task). FindsBlocks meaning t new) ended under.found) (subst IsTrue (sym under.telling) tells)
 
 -- a step after which the round goes on leaves fewer
 pub leaves_fewer : {P : Type 0} (meaning : Meaning P) (old new : P) (task after : Task) → Steps meaning task old after new → Answers More after → steps_left after ≤ steps_left task - 1

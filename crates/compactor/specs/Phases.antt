@@ -14,7 +14,7 @@ use Rattle.store_state.specs.declared.rounds.Refusal.TheVariants.{Memory, NotBlo
 use Rattle.store_state.specs.declared.rounds.Round.{Round}
 use Rattle.compactor.specs.Rounds.{Leads, pages_of, rows_at}
 use Rattle.compactor.specs.Rounds.{Stage as stage}
-use Rattle.compactor.specs.Tasks.{FindsBlocks, Fits, Known, Task, blocks_left, stage_of}
+use Rattle.compactor.specs.Tasks.{FindsBlocks, Fits, Task, blocks_left, stage_of}
 use Rattle.compactor.specs.Tasks.Task.{Fresh, Reading, Writing, Failing, Ended}
 use Rattle.compactor.specs.declared.task.Phase.{Phase}
 use Rattle.compactor.specs.declared.task.Phase.TheVariants as phase
@@ -66,7 +66,7 @@ pub data Turned (job : CompactJob) (parts : List (List Row)) (pages : ℕ) (byte
 -- A round came so far: these calls were made, and whatever leads on from where the task is leads, after them, from the begin.
 pub record IsUnderWay {P : Type 0} (meaning : Meaning P) (start : P) (task : Task) (now : P) : Type 0 where
   pub fits : Fits meaning task now
-  pub found : Known meaning start → FindsBlocks meaning task now
+  pub found : FindsBlocks meaning task now
   pub telling : meaning.tells now ≡ meaning.tells start
   pub calls : List Call
   pub made : AreMade meaning start calls now

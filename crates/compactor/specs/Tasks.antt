@@ -6,7 +6,7 @@ use Rattle.block_info.specs.InfoParts.{InfoParts}
 use Rattle.store_model.specs.Holds.{Hold}
 use Rattle.store_state.specs.Given.{compact_of, info_files}
 use Rattle.store_state.specs.Made.{Call}
-use Rattle.store_state.specs.Meaning.{View, Meaning, Called, IsOpen}
+use Rattle.store_state.specs.Meaning.{Meaning, Called, IsOpen}
 use Rattle.store_state.specs.Shown.{AreBlocks, AreFew}
 use Rattle.store_state.specs.Written.{HoldRows, page_of}
 use Rattle.store_state.specs.declared.jobs.CompactJob.{CompactJob}
@@ -115,14 +115,10 @@ Fits meaning (Writing job bytes info) port = IsWriting meaning job bytes info po
 Fits meaning (Failing job why) port = IsOpen meaning port (compact_of job)
 Fits meaning (Ended round) port = Unit {0}
 
--- the port knows a history
-abbrev pub Known : {P : Type 0} → Meaning P → P → Type 0
-Known meaning port = (v : View) × meaning.knows port v
-
--- Where bytes are told, the task finds no block to be none. Before its begin this wants that the port knows a history; while it reads,
--- that the job's blocks are blocks; after that, that it found none to be none.
+-- Where bytes are told, the task finds no block to be none. While it reads this wants that the job's blocks are blocks; after that,
+-- that it found none to be none.
 abbrev pub FindsBlocks : {P : Type 0} → Meaning P → Task → P → Type 0
-FindsBlocks meaning Fresh port = Known meaning port
+FindsBlocks meaning Fresh port = Unit {0}
 FindsBlocks meaning (Reading job parts pages bytes) port = IsTrue (meaning.tells port) → AreBlocks (meaning.shows port) job.pin.blocks
 FindsBlocks meaning (Writing job bytes info) port = Unit {0}
 FindsBlocks meaning (Failing job why) port = IsTrue (meaning.tells port) → FoundBlocks (Refused why)

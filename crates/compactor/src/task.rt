@@ -8,7 +8,7 @@ ghost use Rattle.store_state.specs.Made.{AreMade, Call};
 ghost use Rattle.store_state.specs.Meaning.{IsOpen};
 ghost use Rattle.compactor.specs.Rounds.{FoundBlocks, IsCompactRound};
 ghost use Rattle.compactor.specs.Phases.{task_of};
-ghost use Rattle.compactor.specs.Tasks.{Answers, FindsBlocks, Fits, IsReading, IsWriting, Known, OneEvent, Steps, steps_left};
+ghost use Rattle.compactor.specs.Tasks.{Answers, FindsBlocks, Fits, IsReading, IsWriting, OneEvent, Steps, steps_left};
 ghost use Rattle.compactor.specs.Tasks.Task.{Ended, Failing, Fresh, Reading, Writing};
 
 use crate::building::{Block, build_block};
@@ -63,7 +63,7 @@ impl CompactTask {
     /// Makes the next event of the round. Behind its end it makes none and answers the same end again.
     ///
     /// All steps of a task are made on one port, or on those that stand for it, so that the job stays open. Where the port
-    /// tells its bytes, and knows a history as the round begins, no block is found to be malformed.
+    /// tells its bytes no block is found to be malformed.
     pub fn step<P: Port>(&mut self, port: &mut P) -> Step
         requires { Fits P.meaning self.old port.old }
         ensures steps { Steps P.meaning self.old port.old self.new port.new }
@@ -104,7 +104,7 @@ fn begin<P: Port>(alloc: Global, port: &mut P) -> Phase
     requires { (held : List Hold) × P.meaning.holds port.old held }
     ensures steps { OneEvent P.meaning Fresh port.old (task_of result) port.new }
     ensures fits { Fits P.meaning (task_of result) port.new }
-    ensures found { Known P.meaning port.old → FindsBlocks P.meaning (task_of result) port.new }
+    ensures found { FindsBlocks P.meaning (task_of result) port.new }
     ensures left { steps_left (task_of result) ≤ 6 * 2 ^ 64 + 4 }
 {
     a_choice_is_few();
@@ -274,14 +274,12 @@ fn give_up<P: Port>(job: CompactJob, why: Refusal, port: &mut P) -> Phase
 
 /// Joins the blocks that are to be joined next: one whole round, which says what it did or why it was refused.
 ///
-/// It asks that the port says what is open in it. Where the port tells its bytes, and knows a history as the round begins, no
-/// block is found to be malformed.
+/// It asks that the port says what is open in it. Where the port tells its bytes no block is found to be malformed.
 pub fn compact_round<P: Port>(alloc: Global, port: &mut P) -> Round
     requires { (held : List Hold) × P.meaning.holds port.old held }
     ensures made { (calls : List Call) × AreMade P.meaning port.old calls port.new
         × IsCompactRound calls result }
-    ensures told { IsTrue (P.meaning.tells port.old) → Known P.meaning port.old
-        → FoundBlocks result }
+    ensures told { IsTrue (P.meaning.tells port.old) → FoundBlocks result }
 {
     let mut task = CompactTask::new(alloc);
     loop {

@@ -18,7 +18,7 @@ use Rattle.store_state.specs.Given.{look_of, look_parts}
 use Rattle.store_state.specs.Made.{call}
 use Rattle.store_state.specs.Meaning.{Meaning, Called, IsOpen, View}
 use Rattle.store_state.specs.Kept.{HasKept, Kept}
-use Rattle.store_state.specs.Shown.{ShowsHistory}
+use Rattle.store_state.specs.Shown.{AreBlocks, ShowsHistory}
 use Rattle.store_state.specs.declared.jobs.Look.{Look}
 use Rattle.store_state.proofs.HoldLaws.{opens_new}
 use Rattle.query_fanout.specs.Bounds.{all_rows}
@@ -79,13 +79,15 @@ module _ {P A : Type 0} (meaning : Meaning P) (old : P) (tells : ℕ → List Ro
     asked = inl (refl, refl);
     told = λ told v known.
         knows_later meaning old new (call event.Look (reply.Refused cause.Memory) ∷ []) v (λ later. Unit {0}) (new, called, refl) known (λ later. tt);
+    whole = λ told. tt;
   }
 
   pub has_asked : (mid late new : P) (look : Look) {within : List (List Row) → ℕ → ℕ → Type 0} (r : Result A QueryError) → TellsFirsts tells → Called meaning old event.Look (given look) mid
       → ((v : View) → meaning.knows mid v → ShowsHistory (IsTrue (meaning.tells mid)) (meaning.shows mid) look v.history)
       → BlocksRead meaning look look.pin.blocks (λ rows x. tells look.as_of (look.rows ++ rows) x) (λ rows x. tells look.as_of (look.rows ++ rows) x) within mid r late
-      → Called meaning late (event.Done look.pin.number) reply.Fine new → HasAsked meaning old tells r new
-  has_asked mid late new look r respects looked shown read ended = record {
+      → Called meaning late (event.Done look.pin.number) reply.Fine new → ((held : List Hold) × meaning.holds old held)
+      → (IsTrue (meaning.tells mid) → (held : List Hold) → meaning.holds old held → AreBlocks (meaning.shows mid) look.pin.blocks) → HasAsked meaning old tells r new
+  has_asked mid late new look r respects looked shown read ended holds whole = record {
     calls = call event.Look (given look) ∷ (read.pages.calls ++ call (event.Done look.pin.number) reply.Fine ∷ []);
     made = (mid, looked, made_after meaning mid late new read.pages.calls (call (event.Done look.pin.number) reply.Fine ∷ []) read.pages.made (new, ended, refl));
     asked = inr (record { pin = look.pin.number; blocks = look.pin.blocks; as_of = look.as_of; rows = look.rows }, read.pages.calls, refl, read.pages.are, read.comes);
@@ -93,6 +95,10 @@ module _ {P A : Type 0} (meaning : Meaning P) (old : P) (tells : ℕ → List Ro
         told_later meaning tells old mid new (look_parts look) (read.pages.calls ++ call (event.Done look.pin.number) reply.Fine ∷ []) r looked
         (made_after meaning mid late new read.pages.calls (call (event.Done look.pin.number) reply.Fine ∷ []) read.pages.made (new, ended, refl)) v known
         (λ now knows count. of_history now.history count (shown now knows) (subst IsTrue (sym looked.telling) told));
+    whole = λ told.
+        let known : IsTrue (meaning.tells mid) = subst IsTrue (sym looked.telling) told in
+        let are = whole known holds.0 holds.1 in
+        sound_map (λ (x : A). tells look.as_of (all_rows look.rows are.0) x) (λ (x : A). Unit {0}) r (λ x h. tt) (read.told known are.0 are.1);
   }
     where
       of_history : (h : History) → look.as_of ≡ count_of h → ShowsHistory (IsTrue (meaning.tells mid)) (meaning.shows mid) look h → IsTrue (meaning.tells mid)

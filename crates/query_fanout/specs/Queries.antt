@@ -93,10 +93,12 @@ KnowsLater meaning new v holds =
     (later : View) × meaning.knows new later × IsGrown v.history later.history × holds later.history
 
 -- A query was asked over a port: these calls are all that it made. Where the port shows its bytes, what it tells is told of the
--- history that is known afterwards, as it was at some length from that on which was known before; and each block is found to be one.
+-- history that is known afterwards, as it was at some length from that on which was known before; and each block is found to be one,
+-- whether a history is known or not.
 pub record HasAsked {P A : Type 0} (meaning : Meaning P) (old : P) (tells : ℕ → List Row → A → Type 0) (r : Result A QueryError) (new : P) : Type 0 where
   pub calls : List Call
   pub made : AreMade meaning old calls new
   pub asked : IsAsked tells r calls
   pub told : IsTrue (meaning.tells old) → (v : View) → meaning.knows old v
       → KnowsLater meaning new v (λ later. Sound (TellsOf tells v.history later) r)
+  pub whole : IsTrue (meaning.tells old) → Sound (λ x. Unit {0}) r

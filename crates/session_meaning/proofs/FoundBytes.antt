@@ -55,14 +55,16 @@ module _ {D : Type 0} (g : Ghosts D) where
 
   opening_fits : (left : Image → Type 0) (moment : ℕ) (disk : D) (store : Store D) (result : Result ℕ OpenError) → IsTrue (g.tells disk) → left (g.held disk)
       → Reopens g disk moment store result → FitsBytes left (Reopen moment) (reopened_reply result)
-  opening_fits left moment disk store (Ok entries) tells here again = tt
+  opening_fits left moment disk store (Ok entries) tells here again = (g.held disk, here, again.unbroken tells)
   opening_fits left moment disk store (Err Fault) tells here again = tt
   opening_fits left moment disk store (Err (NotStore file at)) tells here again = (g.held disk, here, again.breaks tells file at refl)
   opening_fits left moment disk store (Err Memory) tells here again = tt
 
   one_fits : (left : Image → Type 0) (act : Act) (old new : Store D) (reply : Reply) → IsTrue (g.tells (disk_of old)) → left (g.held (disk_of old))
       → IsDoneOver g act old reply new → FitsBytes left act reply
-  one_fits left (Ask item) old new reply tells here is = tt
+  one_fits left (Ask (Ok request)) (Open core) new reply tells here (later, is, one) = one.is.whole tells
+  one_fits left (Ask (Ok request)) (Closed disk) new reply tells here bad = absurd bad
+  one_fits left (Ask (Err why)) old new reply tells here is = tt
   one_fits left (Reopen moment) old new reply tells here (result, is, again) =
       subst (λ (r : Reply). FitsBytes left (Reopen moment) r) (sym is) (opening_fits left moment (disk_of old) new result tells here again)
   one_fits left Unread old new reply tells here is = tt

@@ -1,5 +1,5 @@
 -- What is stored and what upkeep has left, after a run and whenever it is stopped.
-use Rattle.std.specs.Prelude.{◌≡◌, ◌≢◌, ◌⊎◌, ⊤, ℕ, ◌≤◌, true, false, List, [], ◌∷◌, Option, None, Some, IfSome, IsTrue}
+use Rattle.std.specs.Prelude.{◌≡◌, ◌≢◌, ◌⊎◌, ⊤, ℕ, ◌≤◌, true, false, List, [], ◌∷◌, Option, None, Some, IfSome, IsTrue, Ok}
 use Rattle.std.specs.List.{Contains}
 use Rattle.span_types.specs.First.{IsFirstOf}
 use Rattle.span_types.specs.declared.spans.Row.{Row}
@@ -7,9 +7,10 @@ use Rattle.block_list.specs.Loading.{KeepsList}
 use Rattle.disk_model.specs.Images.{Image}
 use Rattle.disk_model.specs.Crash.{Reached}
 use Rattle.disk_model.specs.declared.disk.Device.{Ghosts}
+use Rattle.client_run.specs.Answers.{BlamesNoBlock}
 use Rattle.session_text.specs.declared.refusal.Refusal.TheVariants.{Memory, NotStore}
 use Rattle.session_text.specs.declared.reply.Reply.{Reply}
-use Rattle.session_text.specs.declared.reply.Reply.TheVariants.{Refused}
+use Rattle.session_text.specs.declared.reply.Reply.TheVariants.{Refused, Reopened}
 use Rattle.store_model.specs.History.{count_of}
 use Rattle.store_model.specs.RowSets.{Within}
 use Rattle.store_model.specs.State.{State, live_rows, state_rows}
@@ -19,7 +20,7 @@ use Rattle.store_core.specs.Waiting.{rows_outside}
 use Rattle.store_reopen.specs.Through.{StoodAmid}
 use Rattle.session_meaning.specs.declared.ending.Ending.TheVariants.{NotOpened}
 use Rattle.session_meaning.specs.Act.{Act}
-use Rattle.session_meaning.specs.Act.Act.{Reopen}
+use Rattle.session_meaning.specs.Act.Act.{Ask, Reopen}
 use Rattle.session_meaning.specs.At.{At, history_of}
 use Rattle.session_meaning.specs.Listed.{HaveKeyOf, ListsState}
 use Rattle.session_meaning.specs.Done.{AreDoneAmong}
@@ -79,9 +80,17 @@ pub record BeginsListed (image : Image) (u : State) (moment : ℕ) (first : Stat
 
 -- ---- openings over whatever bytes
 
--- A store that is opened again is refused for its bytes only where one of these images breaks, first at that place of that file.
+-- the bytes break nowhere
+abbrev pub IsUnbroken : Image → Type 0
+IsUnbroken image = (file at : ℕ) → StoreBreaks image file at → ⊥
+
+-- A store that is opened again is refused for its bytes only where one of these images breaks, first at that place of that file; and it is
+-- open only where one of them breaks nowhere. Nothing that is asked is told of a block that it is none: an opening checks each block, and
+-- what is listed since was written as one.
 abbrev pub FitsBytes : (Image → Type 0) → Act → Reply → Type 0
 FitsBytes left (Reopen moment) (Refused (NotStore file at)) = (image : Image) × left image × StoreBreaks image file at
+FitsBytes left (Reopen moment) (Reopened entries) = (image : Image) × left image × IsUnbroken image
+FitsBytes left (Ask (Ok request)) reply = BlamesNoBlock reply
 FitsBytes left act reply = ⊤
 
 -- the same of each line and its reply
@@ -107,8 +116,9 @@ broken_after before (act ∷ acts) (reply ∷ replies) = broken_after (broken_at
 abbrev pub HoldsBroken : Image → ℕ × ℕ → Type 0
 HoldsBroken held place = (image : Image) × StoreBreaks image place.0 place.1 × KeepsList image held
 
--- Over a disk that shows its bytes, whatever they are: what each opening again is refused for, a crash may have left since the run began;
--- and if the store is closed for its bytes at the end, the disk that is handed back holds them. An input may end after any line.
+-- Over a disk that shows its bytes, whatever they are: what each opening again is refused for, a crash may have left since the run began,
+-- and for each that goes well, bytes that break nowhere; no query and no compaction is told of a block that it is none; and if the store is
+-- closed for its bytes at the end, the disk that is handed back holds them. An input may end after any line.
 pub record FindsBytes {D : Type 0} (g : Ghosts D) (disk later : D) (o : Outcome) : Type 0 where
   pub fit : IsTrue (g.tells disk) → FitBytes (g.left_since later (g.moment disk)) o.acts o.replies
   pub closed : IsTrue (g.tells disk) → IfSome (broken_after None o.acts o.replies) (HoldsBroken (g.held later))

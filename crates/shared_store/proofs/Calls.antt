@@ -24,7 +24,7 @@ use Rattle.store_state.specs.Kept.{Kept, HasKept}
 use Rattle.store_state.specs.Meaning.{View, Meaning, Called, IsOpen, LeavesKept, Learns, Rewritten, reads_of}
 use Rattle.store_state.specs.Given.{info_files, look_parts}
 use Rattle.store_state.specs.Replies.{look_reply}
-use Rattle.store_state.specs.Shown.{IsLookTaken, ShowsHistory}
+use Rattle.store_state.specs.Shown.{AreBlocks, IsLookTaken, ShowsHistory}
 use Rattle.store_state.specs.Written.{IsPageRead, HoldRows, AreBlocksOf}
 use Rattle.store_state.specs.declared.jobs.Look.{Look as GivenLook}
 use Rattle.span_types.specs.declared.errors.Memory.{Memory as NoMemory}
@@ -375,6 +375,22 @@ module _ {C : Type 0} (m : Meaning C) (e : Event) (r : Reply) (before core : C) 
       let known : m.knows went.key knows.from = subst (λ (c : C). m.knows c knows.from) same_key knows.known in
       let known_then = went.appended.knows knows.from known in
       (known_then.view, known_then.known, known_then.history ∙ sym knows.history)
+
+-- the blocks of a look that was taken are blocks, as the seat shows them
+pub seat_whole : {C : Type 0} (m : Meaning C) (answer : Result GivenLook NoMemory) (before core : C) (v v' w : Known C)
+    → Went m Look (look_reply answer) before core v v' w
+    → (IsTrue (m.tells core) → IfOk answer (λ look. (held : List Hold) → m.holds before held → AreBlocks (m.shows core) look.pin.blocks))
+    → (of : List Hold → Type 0) → IsTrue (told_by m w.start)
+    → IfOk answer (λ look. (held : List Hold) → of held → AreBlocks (bytes_in w.seen.kept) look.pin.blocks)
+seat_whole m (Err e) before core v v' w went whole of told = tt
+seat_whole m (Ok look) before core v v' w went whole of told = λ held is.
+    let r : Reply = look_reply (Ok look) in
+    let h = whole (told_now m Look r before core v v' w went told) went.found.held went.found.holds in (
+      h.0,
+      blocks_in (m.shows core) (bytes_in w.seen.kept) look.pin.blocks h.0
+          (λ file e. shows_now m Look r before core v v' w went (OpenLook (look_parts look))
+          (opened_now m Look r before core v v' w went (OpenLook (look_parts look)) (0, omega arith, refl)) file e) h.1,
+    )
 
 -- what the port shows of a look, the seat shows
 pub seat_shows : {C : Type 0} (m : Meaning C) (answer : Result GivenLook NoMemory) (before core : C) (v v' w : Known C)

@@ -154,6 +154,24 @@ joins_some m before (Err e) h = tt
 joins_some m before (Ok None) h = tt
 joins_some m before (Ok (Some job)) h = (h.0, h.1, h.2, λ told no. absurd no)
 
+-- the blocks of a compaction that begins are blocks, as the seat shows them
+pub seat_joins_whole : {C : Type 0} (m : Meaning C) (answer : Result (Option CompactJob) BeginError) (before core : C) (v v' w : Known C)
+    → Went m BeginCompact (begin_compact_reply answer) before core v v' w
+    → (IsTrue (m.tells core) → IfOk answer (λ begun. IfSome begun (λ job. (held : List Hold) → m.holds before held → AreBlocks (m.shows core) job.pin.blocks)))
+    → (of : List Hold → Type 0) → IsTrue (told_by m w.start)
+    → IfOk answer (λ begun. IfSome begun (λ job. (held : List Hold) → of held → AreBlocks (bytes_in w.seen.kept) job.pin.blocks))
+seat_joins_whole m (Err e) before core v v' w went whole of t = tt
+seat_joins_whole m (Ok None) before core v v' w went whole of t = tt
+seat_joins_whole m (Ok (Some job)) before core v v' w went whole of t = λ held is.
+    let r : Reply = begin_compact_reply (Ok (Some job)) in
+    let h = whole (told_now m BeginCompact r before core v v' w went t) went.found.held went.found.holds in (
+      h.0,
+      blocks_in (m.shows core) (bytes_in w.seen.kept) job.pin.blocks h.0
+          (λ file e. shows_now m BeginCompact r before core v v' w went (OpenCompact (compact_parts job))
+          (opened_now m BeginCompact r before core v v' w went (OpenCompact (compact_parts job)) (0, omega arith, refl)) file
+          (later_among file job.out.file (info_files job.pin.blocks) e)) h.1,
+    )
+
 pub seat_blocks : {C : Type 0} (m : Meaning C) (answer : Result (Option CompactJob) BeginError) (before core : C) (v v' w : Known C)
     → Went m BeginCompact (begin_compact_reply answer) before core v v' w
     → (IsTrue (m.tells core) → IfOk answer (λ begun. IfSome begun (λ job. (u : View) → m.knows core u → AreBlocks (m.shows core) job.pin.blocks)))

@@ -117,13 +117,13 @@ refused_calls _ no_fault n = refl
 pub did_not_begin : {D : Type 0} (g : Ghosts D) (only_now : OnlyNow g) (old : Core D) (why : Refusal) → ((m : Machine) → HasState old.state m → early m BeginFlush ≡ Some (Refused why)) → why ≢ Fault
     → Did g old BeginFlush (Refused why) (record old { state = old.state })
 did_not_begin g only_now old why is no_fault =
-    quiet g only_now old old.state BeginFlush (Refused why) (λ file bytes. refl) (λ e. no_fault (refused_is why Fault e)) (refused_calls why no_fault) refl refl (λ shows. tt) (λ told m s. tt)
+    quiet g only_now old old.state refl BeginFlush (Refused why) (λ file bytes. refl) (λ e. no_fault (refused_is why Fault e)) (refused_calls why no_fault) refl refl (λ shows. tt) (λ told m s. tt)
     (λ told m s. (m, s, refl, Sure (is m s.has) refl))
 
 pub did_idle : {D : Type 0} (g : Ghosts D) (only_now : OnlyNow g) (old : Core D) → ((m : Machine) → HasState old.state m → early m BeginFlush ≡ Some Nothing)
     → Did g old BeginFlush Nothing (record old { state = old.state })
 did_idle g only_now old is =
-    quiet g only_now old old.state BeginFlush Nothing (λ file bytes. refl) (λ e. let bad : Nothing ≡ Refused Fault = e in cc) (λ n. refl) refl refl (λ shows. tt) (λ told m s. tt)
+    quiet g only_now old old.state refl BeginFlush Nothing (λ file bytes. refl) (λ e. let bad : Nothing ≡ Refused Fault = e in cc) (λ n. refl) refl refl (λ shows. tt) (λ told m s. tt)
     (λ told m s. (m, s, refl, Sure (is m s.has) refl))
 
 -- ---- memory was taken
@@ -174,7 +174,7 @@ pub did_lack : {D : Type 0} (g : Ghosts D) (only_now : OnlyNow g) (old : Core D)
     → old.state.jobs.flush ≡ None → KeepsRooms old.state.list old.state.infos infos old.state.jobs jobs
     → ((m : Machine) → HasState old.state m → SameRows old.state.live live) → Did g old BeginFlush (Refused Memory) (record old { state = record old.state { live = live; infos = infos; jobs = jobs } })
 did_lack {D} g only_now old live infos jobs free none kept rows =
-    quiet g only_now old (record old.state { live = live; infos = infos; jobs = jobs }) BeginFlush (Refused Memory) (λ file bytes. refl) (λ e. let bad = refused_is Memory Fault e in cc) (λ n. refl) refl refl (λ shows. tt) (λ told m s. tt)
+    quiet g only_now old (record old.state { live = live; infos = infos; jobs = jobs }) kept.infos BeginFlush (Refused Memory) (λ file bytes. refl) (λ e. let bad = refused_is Memory Fault e in cc) (λ n. refl) refl refl (λ shows. tt) (λ told m s. tt)
     (λ told m s.
     let step : Step (g.faults old.disk) (g.faults old.disk) m BeginFlush (Refused Memory) m = Lacks (free m s.has) refl refl refl in (
       m,
@@ -321,7 +321,7 @@ module _ {D : Type 0} (g : Ghosts D) (old : Core D) (disk : D) (files : FlushFil
         → (IsTrue (g.tells old.disk) → ((first : ℕ) → SegmentHolds first [] 1 (bytes_of (g.held disk) files.segment)) × OnlyBytes files.segment (bytes_of (g.held disk) files.segment) (g.may_leave disk))
         → Did g old BeginFlush (Flushing (record { number = jobs.begun; file = files.block; rows = rows })) (record old { disk = disk; state = record old.state { live = live; infos = infos; jobs = jobs } })
     did_begin fine empty fresh =
-        did_kept g old disk old.cache (λ m s fits. fits) (record old.state { live = live; infos = infos; jobs = jobs }) BeginFlush refl (Flushing (record { number = jobs.begun; file = files.block; rows = rows }))
+        did_kept g old disk old.cache (λ m s fits. fits) (record old.state { live = live; infos = infos; jobs = jobs }) known BeginFlush refl (Flushing (record { number = jobs.begun; file = files.block; rows = rows }))
         (calls_fine g old.disk disk 5 2 0 (λ low. omega arith) result made fine (Flushing (record { number = jobs.begun; file = files.block; rows = rows })) (λ is. let bad : Flushing (record { number = jobs.begun; file = files.block; rows = rows }) ≡ Refused Fault = is in absurd cc))
         run_keeps refl refl
         (λ m s.
@@ -358,7 +358,7 @@ module _ {D : Type 0} (g : Ghosts D) (old : Core D) (disk : D) (files : FlushFil
   did_begin_fail live infos jobs faults counted err kept rows =
       let rose = calls_rose g old.disk disk 5 2 0 (λ low. omega arith) result made err in
       subst (λ (n : ℕ). Did g old BeginFlush (Refused Fault) (record old { disk = disk; state = record old.state { live = live; infos = infos; jobs = jobs; read_only = Some n } })) (sym counted)
-      (did_kept g old disk old.cache (λ m s fits. fits) (record old.state { live = live; infos = infos; jobs = jobs; read_only = Some (g.faults disk) }) BeginFlush refl (Refused Fault) (calls_fault g old.disk disk 5 2 0 (λ low. omega arith) result made err) run_keeps refl (adds_none BeginFlush refl (Refused Fault) _)
+      (did_kept g old disk old.cache (λ m s fits. fits) (record old.state { live = live; infos = infos; jobs = jobs; read_only = Some (g.faults disk) }) kept.infos BeginFlush refl (Refused Fault) (calls_fault g old.disk disk 5 2 0 (λ low. omega arith) result made err) run_keeps refl (adds_none BeginFlush refl (Refused Fault) _)
       (λ m s. (
         broken (g.faults disk) m,
         stands_kept (IsTrue (g.tells old.disk)) (IsTrue (g.tells disk)) (g.held old.disk) (g.held disk) (g.may_leave old.disk) (g.may_leave disk) old.state (record old.state { live = live; infos = infos; jobs = jobs; read_only = Some (g.faults disk) }) m (broken (g.faults disk) m)

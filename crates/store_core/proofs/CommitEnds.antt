@@ -22,6 +22,7 @@ use Rattle.store_model.proofs.KeepsFirsts.{step_keeps as keeps_firsts}
 use Rattle.store_model.proofs.KeepsSound.{step_keeps as keeps_sound}
 use Rattle.store_model.proofs.KeepsFloor.{step_keeps as keeps_floor}
 use Rattle.store_state.specs.Calls.{RoseAtMost}
+use Rattle.store_state.specs.Shown.{AreBlocks}
 use Rattle.store_images.specs.Stored.{ImageStandsFor, MayStandFor, IsTidy}
 use Rattle.store_images.specs.Settled.{IsSettled}
 use Rattle.store_images.proofs.Keeping.{block_named, given_out}
@@ -33,6 +34,7 @@ use Rattle.store_core.specs.declared.store.Core.{Core}
 use Rattle.store_core.specs.Cores.{HasState, StandsFor, StateShows, AreDescribed, tail_of, unsure_of}
 use Rattle.store_core.specs.Events.{Did, Between, end_of}
 use Rattle.store_core.proofs.Counted.{counted_fine, counted_fault, counts_short, calls_exact, rose_then}
+use Rattle.store_core.proofs.ListedBlocks.{whole_kept, whole_same}
 use Rattle.store_core.proofs.Now.{did_since, frames_same}
 use Rattle.store_core.proofs.CommitEvents.{IsCommit}
 use Rattle.store_core.proofs.CommitRuns.{Synced, Ran, MayList, stands_since, stands_now, tidy_since}
@@ -142,6 +144,11 @@ module _ {D : Type 0} (g : Ghosts D) (only_now : OnlyNow g) (old : Core D) (mid 
     | inr least ↦ same_file told f least
   ]
 
+  -- the blocks that were listed are blocks
+  pub listed_still : IsTrue (g.tells old.disk) → (m : Machine) → StateShows g old m → AreBlocks (λ f. bytes_of (g.held old.disk) f) old.state.infos.items
+      → AreBlocks (λ f. bytes_of (g.held disk) f) old.state.infos.items
+  listed_still told m s are = whole_kept (g.held old.disk) (g.held disk) old.state m s.has (λ f is. same_file told f (kept_high m.state s.sound f is)) are
+
   counts : Counts g 0 (IsOk result) (IsErr result) old.disk disk
   counts = counts_then g 0 (IsOk synced.result) (IsErr synced.result) (IsOk result) (IsErr result) old.disk mid disk (calls_counts g old.disk mid synced.result 1 0 synced.made) synced.fine
       (counts_short g ran.end 0 (IsOk result) (IsErr result) mid disk ran.short (calls_counts g mid disk result 6 ran.end ran.made))
@@ -154,8 +161,9 @@ module _ {D : Type 0} (g : Ghosts D) (only_now : OnlyNow g) (old : Core D) (mid 
 
   pub did_committed : IsOk result → (later : CoreState) → unsure_of later ≡ unsure_of old.state
       → ((told : Type 0) → (tells : told → IsTrue (g.tells old.disk)) → (decided : IsDecided told) → (m : Machine) → (s : StandsFor told (g.held old.disk) (g.may_leave old.disk) old.state m) → Takes told (g.held disk) (g.may_leave disk) later (with_state (lists told tells decided m s).after m))
+      → (IsTrue (g.tells old.disk) → (m : Machine) → StateShows g old m → AreBlocks (λ f. bytes_of (g.held old.disk) f) old.state.infos.items → AreBlocks (λ f. bytes_of (g.held disk) f) later.infos.items)
       → Did g old event Fine (record old { disk = disk; state = later })
-  did_committed fine later unsure takes = did_since g old _ _ _ refl (λ m s fits. fits) (frames_same event old.cache) (record {
+  did_committed fine later unsure takes whole = did_since g old _ _ _ refl (λ m s fits. fits) (frames_same event old.cache) (record {
     stepped = λ m s. record {
       machine = with_state (lists (IsTrue (g.tells old.disk)) (λ t. t) (true_or_not (g.tells old.disk)) m s).after m;
       stands = stands_after (IsTrue (g.tells old.disk)) (λ t. t) (true_or_not (g.tells old.disk)) m s later unsure (takes (IsTrue (g.tells old.disk)) (λ t. t) (true_or_not (g.tells old.disk)) m s) (IsTrue (g.tells disk)) (λ t. subst IsTrue telling t);
@@ -173,6 +181,7 @@ module _ {D : Type 0} (g : Ghosts D) (only_now : OnlyNow g) (old : Core D) (mid 
     tidy = λ told m s tidy. tidy_in (IsTrue (g.tells old.disk)) (λ t. t) (true_or_not (g.tells old.disk)) m s told tidy;
     files = λ told m s hold is_open goes_on f among. is.files_are Fine f _ _ (held_same told m s hold is_open f among);
     kept = λ told m s f is. same_file told f (kept_high m.state s.sound f is);
+    whole = whole;
     empty = λ told f among. none_begun Fine f _ refl among;
     page = λ told. is.no_page Fine (λ f. bytes_of (g.held old.disk) f);
     look = λ told m s. tt;
@@ -201,6 +210,7 @@ module _ {D : Type 0} (g : Ghosts D) (only_now : OnlyNow g) (old : Core D) (mid 
     tidy = λ told m s tidy. tidy_in (IsTrue (g.tells old.disk)) (λ t. t) (true_or_not (g.tells old.disk)) m s told tidy;
     files = λ told m s hold is_open goes_on f among. is.files_are (Refused Fault) f _ _ (held_same told m s hold is_open f among);
     kept = λ told m s f is. same_file told f (kept_high m.state s.sound f is);
+    whole = λ told m s are. whole_same (g.held disk) old.state.infos.items later.infos.items infos (listed_still told m s are);
     empty = λ told f among. none_begun (Refused Fault) f _ refl among;
     page = λ told. is.no_page (Refused Fault) (λ f. bytes_of (g.held old.disk) f);
     look = λ told m s. tt;

@@ -72,7 +72,7 @@ compact_commits number size = record {
 pub no_commit : {D : Type 0} (g : Ghosts D) (only_now : OnlyNow g) (old : Core D) (event : Event) (is : IsCommit event) (faults : ℕ) → old.state.read_only ≡ Some faults
     → Did g old event (Refused (ReadOnly faults)) (record old { state = old.state })
 no_commit g only_now old event is faults stopped =
-    quiet g only_now old old.state event (Refused (ReadOnly faults)) (λ f b. is.files_are (Refused (ReadOnly faults)) f b b refl) (λ e. let bad = refused_is (ReadOnly faults) Fault e in cc) (is.calls_none faults) refl refl (is.no_page (Refused (ReadOnly faults))) (λ told m s. tt)
+    quiet g only_now old old.state refl event (Refused (ReadOnly faults)) (λ f b. is.files_are (Refused (ReadOnly faults)) f b b refl) (λ e. let bad = refused_is (ReadOnly faults) Fault e in cc) (is.calls_none faults) refl refl (is.no_page (Refused (ReadOnly faults))) (λ told m s. tt)
     (λ told m stands. (m, stands, refl, Sure (is.early_is m ∙ ap (λ (r : Option ℕ). if_read_only r None) (stands.has.read_only ∙ stopped)) refl))
 
 -- the block wasn't synced
@@ -94,7 +94,7 @@ module _ {D : Type 0} (g : Ghosts D) (only_now : OnlyNow g) (old : Core D) (disk
       let rose = calls_rose g old.disk disk 1 0 (end_of old.state event) (λ low. omega arith) result made err in
       let most = calls_most g old.disk disk 1 0 (end_of old.state event) (λ low. omega arith) result made in
       subst (λ (n : ℕ). Did g old event (Refused Fault) (record old { disk = disk; state = record old.state { read_only = Some n } })) (sym counted)
-      (did_kept g old disk old.cache (λ m s fits. fits) (record old.state { read_only = Some (g.faults disk) }) event (frames_same event old.cache) (Refused Fault) (calls_fault g old.disk disk 1 0 (end_of old.state event) (λ low. omega arith) result made err) (λ told m s. run_keeps) refl (is.unsure_is (Refused Fault) _)
+      (did_kept g old disk old.cache (λ m s fits. fits) (record old.state { read_only = Some (g.faults disk) }) refl event (frames_same event old.cache) (Refused Fault) (calls_fault g old.disk disk 1 0 (end_of old.state event) (λ low. omega arith) result made err) (λ told m s. run_keeps) refl (is.unsure_is (Refused Fault) _)
       (λ m s. (
         broken (g.faults disk) m,
         stands_kept (IsTrue (g.tells old.disk)) (IsTrue (g.tells disk)) (g.held old.disk) (g.held disk) (g.may_leave old.disk) (g.may_leave disk) old.state (record old.state { read_only = Some (g.faults disk) }) m (broken (g.faults disk) m)

@@ -98,13 +98,13 @@ refused_calls _ no_fault n = refl
 pub did_not_compact : {D : Type 0} (g : Ghosts D) (only_now : OnlyNow g) (old : Core D) (why : Refusal) → ((m : Machine) → HasState old.state m → early m BeginCompact ≡ Some (Refused why)) → why ≢ Fault
     → Did g old BeginCompact (Refused why) (record old { state = old.state })
 did_not_compact g only_now old why is no_fault =
-    quiet g only_now old old.state BeginCompact (Refused why) (λ file bytes. refl) (λ e. no_fault (refused_is why Fault e)) (refused_calls why no_fault) refl refl (λ shows. tt) (λ told m s. tt)
+    quiet g only_now old old.state refl BeginCompact (Refused why) (λ file bytes. refl) (λ e. no_fault (refused_is why Fault e)) (refused_calls why no_fault) refl refl (λ shows. tt) (λ told m s. tt)
     (λ told m s. (m, s, refl, Sure (is m s.has) refl))
 
 pub did_choose_none : {D : Type 0} (g : Ghosts D) (only_now : OnlyNow g) (old : Core D) → ((m : Machine) → HasState old.state m → early m BeginCompact ≡ Some Nothing)
     → Did g old BeginCompact Nothing (record old { state = old.state })
 did_choose_none g only_now old is =
-    quiet g only_now old old.state BeginCompact Nothing (λ file bytes. refl) (λ e. let bad : Nothing ≡ Refused Fault = e in cc) (λ n. refl) refl refl (λ shows. tt) (λ told m s. tt)
+    quiet g only_now old old.state refl BeginCompact Nothing (λ file bytes. refl) (λ e. let bad : Nothing ≡ Refused Fault = e in cc) (λ n. refl) refl refl (λ shows. tt) (λ told m s. tt)
     (λ told m s. (m, s, refl, Sure (is m s.has) refl))
 
 -- ---- memory was taken
@@ -146,7 +146,7 @@ pub did_lack_compact : {D : Type 0} (g : Ghosts D) (only_now : OnlyNow g) (old :
     → ((m : Machine) → HasState old.state m → early m BeginCompact ≡ None) → KeepsRooms old.state.list old.state.infos infos old.state.jobs jobs → SamePins old.state.pins.items pins.items
     → Did g old BeginCompact (Refused Memory) (record old { state = record old.state { infos = infos; jobs = jobs; pins = pins } })
 did_lack_compact {D} g only_now old infos jobs pins free kept same =
-    quiet g only_now old (record old.state { infos = infos; jobs = jobs; pins = pins }) BeginCompact (Refused Memory) (λ file bytes. refl) (λ e. let bad = refused_is Memory Fault e in cc) (λ n. refl) refl refl (λ shows. tt) (λ told m s. tt)
+    quiet g only_now old (record old.state { infos = infos; jobs = jobs; pins = pins }) kept.infos BeginCompact (Refused Memory) (λ file bytes. refl) (λ e. let bad = refused_is Memory Fault e in cc) (λ n. refl) refl refl (λ shows. tt) (λ told m s. tt)
     (λ told m s.
     let step : Step (g.faults old.disk) (g.faults old.disk) m BeginCompact (Refused Memory) m = Lacks (free m s.has) refl refl refl in (
       m,
@@ -326,7 +326,7 @@ module _ {D : Type 0} (g : Ghosts D) (old : Core D) (disk : D) (writes : old.sta
     pub did_compact : IsOk result → (IsTrue (g.tells old.disk) → IsEmptied (g.held disk) (g.may_leave disk) file)
         → Did g old BeginCompact (Compacting (record { number = jobs.begun; file = file; level = level; pin = pin; files = files })) (record old { disk = disk; state = record old.state { infos = infos; jobs = jobs; pins = pins } })
     did_compact fine empty =
-        did_kept g old disk old.cache (λ m s fits. fits) (record old.state { infos = infos; jobs = jobs; pins = pins }) BeginCompact refl (Compacting (record { number = jobs.begun; file = file; level = level; pin = pin; files = files }))
+        did_kept g old disk old.cache (λ m s fits. fits) (record old.state { infos = infos; jobs = jobs; pins = pins }) known BeginCompact refl (Compacting (record { number = jobs.begun; file = file; level = level; pin = pin; files = files }))
         (calls_fine g old.disk disk 2 0 0 (λ low. low) result made fine (Compacting (record { number = jobs.begun; file = file; level = level; pin = pin; files = files })) (λ is. let bad : Compacting (record { number = jobs.begun; file = file; level = level; pin = pin; files = files }) ≡ Refused Fault = is in absurd cc))
         run_keeps refl refl
         (λ m s.
@@ -352,7 +352,7 @@ module _ {D : Type 0} (g : Ghosts D) (old : Core D) (disk : D) (writes : old.sta
   did_compact_fail infos jobs pins faults counted err kept same =
       let rose = calls_rose g old.disk disk 2 0 0 (λ low. low) result made err in
       subst (λ (n : ℕ). Did g old BeginCompact (Refused Fault) (record old { disk = disk; state = record old.state { infos = infos; jobs = jobs; pins = pins; read_only = Some n } })) (sym counted)
-      (did_kept g old disk old.cache (λ m s fits. fits) (record old.state { infos = infos; jobs = jobs; pins = pins; read_only = Some (g.faults disk) }) BeginCompact refl (Refused Fault) (calls_fault g old.disk disk 2 0 0 (λ low. low) result made err) run_keeps refl (adds_none BeginCompact refl (Refused Fault) _)
+      (did_kept g old disk old.cache (λ m s fits. fits) (record old.state { infos = infos; jobs = jobs; pins = pins; read_only = Some (g.faults disk) }) kept.infos BeginCompact refl (Refused Fault) (calls_fault g old.disk disk 2 0 0 (λ low. low) result made err) run_keeps refl (adds_none BeginCompact refl (Refused Fault) _)
       (λ m s. (
         broken (g.faults disk) m,
         stands_kept (IsTrue (g.tells old.disk)) (IsTrue (g.tells disk)) (g.held old.disk) (g.held disk) (g.may_leave old.disk) (g.may_leave disk) old.state (record old.state { infos = infos; jobs = jobs; pins = pins; read_only = Some (g.faults disk) }) m

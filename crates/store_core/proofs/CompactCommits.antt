@@ -1,5 +1,5 @@
 -- A compaction's commit as an event of a core: its next list, and what it leaves.
-use Rattle.std.proofs.Common.{◌≡◌, ℕ, ◌≤◌, List, Some, None, Option, IfSome, IsTrue, refl, sym, ◌∙◌, ap, subst, arith, Result, IsOk, IsErr}
+use Rattle.std.proofs.Common.{◌≡◌, ℕ, ◌≤◌, List, [], ◌∷◌, ◌++◌, Some, None, Option, IfSome, IsTrue, refl, sym, ◌∙◌, ap, subst, arith, Result, IsOk, IsErr}
 use Rattle.span_types.specs.declared.errors.Failed.{Failed}
 use Rattle.disk_model.specs.Images.{Image, bytes_of}
 use Rattle.disk_model.specs.Crash.{Run}
@@ -22,6 +22,7 @@ use Rattle.store_model.specs.Step.{Machine, Step, broken, if_read_only, with_sta
 use Rattle.store_model.specs.Step.Step.{Succeeds}
 use Rattle.store_model.proofs.KeepsSound.{step_keeps as keeps_sound}
 use Rattle.store_state.specs.Given.{info_files}
+use Rattle.store_state.specs.Shown.{AreBlocks}
 use Rattle.store_state.specs.Written.{NamesJob, IsJoinedBlock}
 use Rattle.store_images.specs.Committed.{MayCompact}
 use Rattle.store_images.specs.Stored.{ImageStandsFor}
@@ -31,21 +32,22 @@ use Rattle.store_images.proofs.Storing.{settled_now}
 use Rattle.store_core.specs.declared.jobs.OpenFlush.{OpenFlush}
 use Rattle.store_core.specs.declared.state.CoreState.{CoreState}
 use Rattle.store_core.specs.declared.store.Core.{Core}
-use Rattle.store_core.specs.Cores.{HasState, StandsFor, AreDescribed, tail_of, unsure_of}
+use Rattle.store_core.specs.Cores.{HasState, StandsFor, StateShows, AreDescribed, tail_of, unsure_of}
 use Rattle.store_core.specs.Events.{Did}
 use Rattle.store_core.specs.Jobs.{HasFreshSegment, IsSpare}
 use Rattle.store_core.specs.NextList.{IsJoinedList, infos_outside}
 use Rattle.store_core.specs.Waiting.{rows_outside, AreLogged}
-use Rattle.store_core.proofs.CommitEnds.{IsDecided, Lists, Takes, built_old, did_committed, did_commit_fail, same_file}
+use Rattle.store_core.proofs.CommitEnds.{IsDecided, Lists, Takes, built_old, listed_still, did_committed, did_commit_fail, same_file}
 use Rattle.store_core.proofs.CommitEvents.{compact_commits}
 use Rattle.store_core.proofs.CommitImages.{described_more}
 use Rattle.store_core.proofs.CommitRuns.{Synced, Ran, MayList, its_run}
-use Rattle.store_core.proofs.CompactFacts.{HasFirsts, all_joined, files_here, firsts_for, may_compact}
+use Rattle.store_core.proofs.CompactFacts.{HasFirsts, all_joined, files_here, firsts_for, joined_listed, may_compact}
 use Rattle.store_core.proofs.CompactStates.{joined_block, joined_state, names_joined, joined_meets, described_left, TookJoined, IsJoinedInfo, has_joined}
+use Rattle.store_core.proofs.ListedBlocks.{whole_outside, whole_same, whole_with}
 use Rattle.store_core.proofs.Logged.{logged_same}
 use Rattle.store_core.proofs.Looking.{ShowsPins}
 use Rattle.store_core.proofs.NextLists.{NamesState}
-use Rattle.store_core.proofs.OpenCompactions.{IsCompactionHere, model_of}
+use Rattle.store_core.proofs.OpenCompactions.{IsCompactionHere, model_of, spare_compaction}
 use Rattle.store_core.proofs.OpenJobs.{fresh_moved}
 use Rattle.store_core.proofs.PushEvents.{OnlyNow}
 use Rattle.store_core.proofs.Spare.{spare_low}
@@ -235,6 +237,22 @@ module _ {D : Type 0} (g : Ghosts D) (only_now : OnlyNow g) (old : Core D) (mid 
       logged = its_logged;
     }
 
+  -- the new block is one, and so is each that stays listed
+  whole_after : IsTrue (g.tells old.disk) → (m : Machine) → (s : StateShows g old m) → (later : CoreState) → later.infos.items ≡ infos_outside (info_files infos) old.state.infos.items ++ info ∷ []
+      → AreBlocks (λ f. bytes_of (g.held old.disk) f) old.state.infos.items → AreBlocks (λ f. bytes_of (g.held disk) f) later.infos.items
+  whole_after told m s later after are =
+      let its = c.here m s.has in
+      let spare = spare_low old.state.list s.has.rules its.mine.file (spare_compaction old.state m its.mine s.has its.known) in
+      let still = still_file told file (let same = its.its_file in omega (arith, spare, same)) in
+      let one = joined_listed ⊥ (g.held old.disk) (g.may_leave old.disk) old.state m s number file level pin infos its are info (c.joined told) in
+      whole_same (g.held disk) (infos_outside (info_files infos) old.state.infos.items ++ info ∷ []) later.infos.items after
+      (whole_with (λ f. bytes_of (g.held disk) f) (infos_outside (info_files infos) old.state.infos.items) info
+      (whole_outside (λ f. bytes_of (g.held disk) f) (info_files infos) old.state.infos.items
+      (listed_still g only_now old mid disk (CommitCompact number info.rows) (compact_commits number info.rows) file slot list c.writes result synced ran lists told m s are)) (
+        one.0,
+        subst (λ (n : ℕ). BlockHasInfo info (bytes_of (g.held disk) n) one.0) (sym c.names.its_file) (subst (λ (b : List ℕ). BlockHasInfo info b one.0) (sym still) one.1),
+      ))
+
   -- the pins without that of the compaction, whichever machine it is
   pub did_compact_committed : IsOk result → (later : CoreState) → unsure_of later ≡ unsure_of old.state → TookJoined old.state later list info (info_files infos)
       → ((m : Machine) → (has : HasState old.state m) → ShowsPins (without_pin (c.here m has).mine.pin m.state.pins) later.pins.items)
@@ -243,6 +261,7 @@ module _ {D : Type 0} (g : Ghosts D) (only_now : OnlyNow g) (old : Core D) (mid 
   did_compact_committed fine later unsure took pins stays ready =
       did_committed g only_now old mid disk (CommitCompact number info.rows) (compact_commits number info.rows) file slot list c.writes result synced ran lists fine later unsure
       (λ told tells decided m s. compact_takes told tells decided m s later took (pins m s.has) (λ t. stays (subst IsTrue (sym synced.telling) (tells t))) (λ t. ready (subst IsTrue (sym synced.telling) (tells t))))
+      (λ told m s are. whole_after told m s later took.infos are)
 
   pub did_compact_fail : (later : CoreState) → ((m : Machine) → HasState old.state m → HasState later (broken (g.faults disk) m)) → later.infos.items ≡ old.state.infos.items → later.read_only ≡ Some (g.faults disk)
       → unsure_of later ≡ unsure_of old.state → IsErr result → Did g old (CommitCompact number info.rows) (Refused Fault) (record old { disk = disk; state = later })

@@ -97,7 +97,7 @@ pub did_dropped : {D : Type 0} (g : Ghosts D) (only_now : OnlyNow g) (old : Core
     → ((m : Machine) → HasState old.state m → IsCompactionHere old.state m number file level pin files) → Dropped old.state.jobs jobs → GaveBack pin old.state.pins.items pins.items
     → Did g old (DropCompact number) Fine (record old { state = record old.state { jobs = jobs; pins = pins } })
 did_dropped {D} g only_now old jobs pins number file level pin files here dropped back =
-    quiet g only_now old (record old.state { jobs = jobs; pins = pins }) (DropCompact number) Fine (λ f b. refl) (λ e. let bad : Fine ≡ Refused Fault = e in cc) (λ n. refl) refl refl (λ shows. tt) (λ told m s. tt)
+    quiet g only_now old (record old.state { jobs = jobs; pins = pins }) refl (DropCompact number) Fine (λ f b. refl) (λ e. let bad : Fine ≡ Refused Fault = e in cc) (λ n. refl) refl refl (λ shows. tt) (λ told m s. tt)
     (λ told m s.
     let mine = here m s.has in
     let m' = with_state (after_drop_compact (model_of mine.mine) m.state) m in

@@ -18,6 +18,7 @@ use Rattle.store_model.proofs.Chosen.{split}
 use Rattle.store_model.proofs.FirstsExist.{firsts_exist}
 use Rattle.store_model.proofs.Numbers.{times-append, map_append}
 use Rattle.store_state.specs.Given.{info_files}
+use Rattle.store_state.specs.Shown.{AreBlocks}
 use Rattle.store_state.specs.Written.{HoldRows, IsBlockOf, IsJoinedBlock}
 use Rattle.store_images.specs.Committed.{MayCompact}
 use Rattle.store_core.specs.Cores.{StandsFor, rows_by_block, tail_of}
@@ -28,6 +29,7 @@ use Rattle.store_core.proofs.Apart.{below_same, settled_below}
 use Rattle.store_core.proofs.Described.{described_holds}
 use Rattle.store_core.proofs.CompactStates.{joined_block, joined_state}
 use Rattle.store_core.proofs.InUse.{once_contained}
+use Rattle.store_core.proofs.ListedBlocks.{hold_inside}
 use Rattle.store_core.proofs.NextLists.{NamesState, uses_are}
 use Rattle.store_core.proofs.OpenCompactions.{IsCompactionHere, model_of, spare_compaction}
 use Rattle.store_core.proofs.Spare.{spare_low}
@@ -76,6 +78,14 @@ module _ (told : Type 0) (held : Image) (may_leave : Image → Type 0) (core : C
       holds_inside (λ f. bytes_of held f) (job_files its_job m.state) m.state.blocks (described_holds (λ f. bytes_of held f) core.infos.items m.state.blocks s.has.infos (s.built known)) in
       subst (λ (rows : List Row). IsBlockOf (bytes_of held file) info rows) (rows_joined inside)
       (joined (rows_by_block inside) (subst (λ (fs : List ℕ). HoldRows (λ f. bytes_of held f) fs (rows_by_block inside)) (inside_files ∙ sym files_here) holds))
+
+  -- and one of some rows, where the listed blocks are blocks
+  pub joined_listed : AreBlocks (λ f. bytes_of held f) core.infos.items → (info : InfoParts) → IsJoinedBlock (λ f. bytes_of held f) (bytes_of held file) info infos
+      → (rows : List Row) × BlockHasInfo info (bytes_of held file) rows
+  joined_listed are info joined =
+      let inside = hold_inside (λ f. bytes_of held f) (job_files its_job m.state) core.infos.items m.state.blocks are.0 s.has.infos are.1 in
+      let its = joined inside.0 (subst (λ (fs : List ℕ). HoldRows (λ f. bytes_of held f) fs inside.0) (inside_files ∙ sym files_here) inside.1) in
+      (its.firsts, its.block)
 
   pub firsts_for : told ⊎ (told → ⊥) → (info : InfoParts) → (told → IsJoinedBlock (λ f. bytes_of held f) (bytes_of held file) info infos)
       → HasFirsts told (bytes_of held file) info (job_files its_job m.state) m.state.blocks

@@ -34,11 +34,13 @@ use Rattle.store_core.specs.declared.jobs.OpenFlush.{OpenFlush}
 use Rattle.store_core.specs.declared.room.CommitRoom.{CommitRoom}
 use Rattle.store_core.specs.declared.state.CoreState.{CoreState}
 use Rattle.store_core.specs.declared.store.Core.{Core}
-use Rattle.store_core.specs.Cores.{CoreStandsFor, HasState, listed_as}
+use Rattle.store_core.specs.Cores.{CoreStandsFor, HasState, StateShows, listed_as}
 use Rattle.store_core.specs.Events.{Did}
 use Rattle.store_core.proofs.ChosenBlocks.{chosen_files, chosen_level, told_choice, in_places, some_there, level_fits, joins_choice, blocks_at}
 use Rattle.store_core.proofs.CompactBegins.{Begun, Pins, IsChoice, did_compact, did_compact_fail, did_lack_compact, did_not_compact, given_back}
 use Rattle.store_core.proofs.JobRooms.{RoomOfFlush}
+use Rattle.store_core.proofs.KeptFiles.{kept_low}
+use Rattle.store_core.proofs.ListedBlocks.{whole_kept}
 use Rattle.store_core.proofs.MadeRooms.{not_made}
 use Rattle.store_core.proofs.PushEvents.{OnlyNow}
 
@@ -79,6 +81,16 @@ pub blocks_made : {D : Type 0} (g : Ghosts D) (new : Core D) (chosen : List ℕ)
 blocks_made g new chosen pinned m are told s =
     subst (λ (l : List InfoParts). AreBlocks (λ file. bytes_of (g.held new.disk) file) l) (sym are)
     (at_places chosen (map (λ (b : Block). b.rows) m.state.blocks), blocks_at (λ file. bytes_of (g.held new.disk) file) chosen new.state.infos.items (map (λ (b : Block). b.rows) m.state.blocks) (s.stands.built told))
+
+-- the same where the file that is emptied for the new block is the next one
+pub whole_made : {D : Type 0} (g : Ghosts D) (old : Core D) (disk : D) (chosen : List ℕ) (pinned : List InfoParts) (next : ℕ) (m : Machine) → pinned ≡ at_places chosen old.state.infos.items → next ≡ old.state.jobs.next_file
+    → ((other : ℕ) → other ≢ next → bytes_of (g.held disk) other ≡ bytes_of (g.held old.disk) other) → StateShows g old m → AreBlocks (λ file. bytes_of (g.held old.disk) file) old.state.infos.items
+    → AreBlocks (λ file. bytes_of (g.held disk) file) pinned
+whole_made g old disk chosen pinned next m are given same s whole =
+    let still = whole_kept (g.held old.disk) (g.held disk) old.state m s.has
+    (λ file is. same file (let under = kept_low m.state s.sound file is in let its = s.has.next_file in λ e. omega (arith, e, under, its, given))) whole in
+    subst (λ (l : List InfoParts). AreBlocks (λ file. bytes_of (g.held disk) file) l) (sym are)
+    (at_places chosen still.0, blocks_at (λ file. bytes_of (g.held disk) file) chosen old.state.infos.items still.0 still.1)
 
 -- ---- the event
 

@@ -88,7 +88,7 @@ pub did_cut : {D : Type 0} (g : Ghosts D) (only_now : OnlyNow g) (old : Core D) 
     → OnErr result ((live.live ≡ old.state.live.live) × (live.head ≡ old.state.live.head)) → live.flushing ≡ old.state.live.flushing
     → Did g old event (count_reply result) (record old { state = record old.state { live = live } })
 did_cut {D} g only_now old live event goes (Ok n) is moved same flushing =
-    quiet g only_now old (record old.state { live = live }) event (Count n) (is.still (Count n)) (λ e. let bad : Count n ≡ Refused Fault = e in cc) (is.calls (Ok n)) refl refl (is.page (Count n)) (λ told m s. tt)
+    quiet g only_now old (record old.state { live = live }) refl event (Count n) (is.still (Count n)) (λ e. let bad : Count n ≡ Refused Fault = e in cc) (is.calls (Ok n)) refl refl (is.page (Count n)) (λ told m s. tt)
     (λ told m stands.
     let cut = subst (λ (l : List LiveRow). Moves goes l old.state.live live n) (sym stands.has.live) moved in
     let u = after_cut (goes m.state.live) cut.0 m.state in
@@ -100,7 +100,7 @@ did_cut {D} g only_now old live event goes (Ok n) is moved same flushing =
       step,
     ))
 did_cut {D} g only_now old live event goes (Err e) is moved same flushing =
-    quiet g only_now old (record old.state { live = live }) event (Refused IsMemory) (is.still (Refused IsMemory)) (λ e. let bad = refused_is IsMemory Fault e in cc) (is.calls (Err e)) refl refl (is.page (Refused IsMemory)) (λ told m s. tt)
+    quiet g only_now old (record old.state { live = live }) refl event (Refused IsMemory) (is.still (Refused IsMemory)) (λ e. let bad = refused_is IsMemory Fault e in cc) (is.calls (Err e)) refl refl (is.page (Refused IsMemory)) (λ told m s. tt)
     (λ told m stands. (
       m,
       stands_lacking told (g.held old.disk) (g.may_leave old.disk) old.state live m (record { live = same.0; head = same.1; flushing = flushing }) stands,

@@ -93,7 +93,7 @@ pub did_dropped : {D : Type 0} (g : Ghosts D) (only_now : OnlyNow g) (old : Core
     → live.flushing ≡ [] → live.head ≡ old.state.live.flushing ++ old.state.live.head → live.live ≡ old.state.live.live
     → Did g old (DropFlush number) Fine (record old { state = record old.state { live = live; jobs = jobs } })
 did_dropped {D} g only_now old live jobs number file here dropped gone back same =
-    quiet g only_now old (record old.state { live = live; jobs = jobs }) (DropFlush number) Fine (λ f b. refl) (λ e. let bad : Fine ≡ Refused Fault = e in cc) (λ n. refl) refl refl (λ shows. tt) (λ told m s. tt)
+    quiet g only_now old (record old.state { live = live; jobs = jobs }) refl (DropFlush number) Fine (λ f b. refl) (λ e. let bad : Fine ≡ Refused Fault = e in cc) (λ n. refl) refl refl (λ shows. tt) (λ told m s. tt)
     (λ told m s.
     let mine = here m s.has in
     let m' = with_state (after_drop_flush mine.job m.state) m in

@@ -25,6 +25,7 @@ use Rattle.store_model.specs.Step.Step.{Succeeds}
 use Rattle.store_model.proofs.KeepsSound.{step_keeps as keeps_sound}
 use Rattle.live_traces.specs.Parts.{least_number}
 use Rattle.store_state.specs.Listed.{floor_from}
+use Rattle.store_state.specs.Shown.{AreBlocks}
 use Rattle.store_state.specs.declared.listing.FlushFiles.{FlushFiles}
 use Rattle.store_state.proofs.Listings.{floor_is}
 use Rattle.store_images.specs.Stored.{ImageStandsFor, ref_of}
@@ -33,22 +34,24 @@ use Rattle.store_images.proofs.Storing.{settled_now}
 use Rattle.store_core.specs.declared.jobs.OpenFlush.{OpenFlush}
 use Rattle.store_core.specs.declared.state.CoreState.{CoreState}
 use Rattle.store_core.specs.declared.store.Core.{Core}
-use Rattle.store_core.specs.Cores.{HasState, StandsFor, AreDescribed, segment_of, tail_of, unsure_of}
+use Rattle.store_core.specs.Cores.{HasState, StandsFor, StateShows, AreDescribed, segment_of, tail_of, unsure_of}
 use Rattle.store_core.specs.Events.{Did}
 use Rattle.store_core.specs.Jobs.{files_of_compaction}
 use Rattle.store_core.specs.Waiting.{rows_outside, AreLogged}
 use Rattle.store_core.specs.NextList.{IsNextList, length_of, next_floor}
-use Rattle.store_core.proofs.CommitEnds.{IsDecided, Lists, Takes, built_old, did_committed, did_commit_fail, same_file}
+use Rattle.store_core.proofs.CommitEnds.{IsDecided, Lists, Takes, built_old, listed_still, did_committed, did_commit_fail, same_file}
 use Rattle.store_core.proofs.CommitEvents.{flush_commits}
 use Rattle.store_core.proofs.CommitFacts.{may_commit}
 use Rattle.store_core.proofs.CommitImages.{MayCommit, empty_tail, described_more, image_stands, logged_committed, settled_committed, tidy_stands}
 use Rattle.store_core.proofs.CommitRuns.{Synced, Ran, MayList, its_run}
 use Rattle.store_core.proofs.CommitStates.{new_block, committed_state, next_last, next_parting, next_segments, names_next, next_meets, TookOver, IsItsInfo, has_committed}
 use Rattle.store_core.proofs.InUse.{all_named}
+use Rattle.store_core.proofs.ListedBlocks.{whole_same, whole_with}
 use Rattle.store_core.proofs.NextLists.{NamesState}
 use Rattle.store_core.proofs.NextTaken.{flush_blocks, flush_loose}
-use Rattle.store_core.proofs.OpenJobs.{IsOpenHere}
+use Rattle.store_core.proofs.OpenJobs.{IsOpenHere, spare_file}
 use Rattle.store_core.proofs.PushEvents.{OnlyNow}
+use Rattle.store_core.proofs.Spare.{spare_low}
 use Rattle.store_core.proofs.States.{ref_to}
 
 -- the next list, as the machine has it
@@ -259,12 +262,26 @@ module _ {D : Type 0} (g : Ghosts D) (only_now : OnlyNow g) (old : Core D) (mid 
       logged = λ t. its_logged t;
     }
 
+  -- the new block is one, and so is each that was listed
+  whole_after : IsTrue (g.tells old.disk) → (m : Machine) → (s : StateShows g old m) → (later : CoreState) → later.infos.items ≡ old.state.infos.items ++ info ∷ []
+      → AreBlocks (λ f. bytes_of (g.held old.disk) f) old.state.infos.items → AreBlocks (λ f. bytes_of (g.held disk) f) later.infos.items
+  whole_after told m s later infos are =
+      let low : 2 ≤ file = spare_low old.state.list s.has.rules file (spare_file old.state m number file s.has (c.here m s.has)) in
+      let still = same_file g only_now old mid disk (CommitFlush number size) (flush_commits number size) file slot list c.writes result synced ran lists told file low in
+      whole_same (g.held disk) (old.state.infos.items ++ info ∷ []) later.infos.items infos
+      (whole_with (λ f. bytes_of (g.held disk) f) old.state.infos.items info
+      (listed_still g only_now old mid disk (CommitFlush number size) (flush_commits number size) file slot list c.writes result synced ran lists told m s are) (
+        firsts,
+        subst (λ (n : ℕ). BlockHasInfo info (bytes_of (g.held disk) n) firsts) (sym c.its_info.file_is) (subst (λ (b : List ℕ). BlockHasInfo info b firsts) (sym still) (c.block told)),
+      ))
+
   pub did_flush_committed : IsOk result → (later : CoreState) → unsure_of later ≡ unsure_of old.state → ((m : Machine) → (has : HasState old.state m) → TookOver old.state later list info (c.here m has).mine.files.segment (count_of m.history))
       → (IsTrue (g.tells mid) → g.may_leave mid (g.held mid)) → (IsTrue (g.tells mid) → IsReady (g.held mid) (g.may_leave mid) (Some old.state.list) → IsReady (g.held disk) (g.may_leave disk) (Some list))
       → Did g old (CommitFlush number size) Fine (record old { disk = disk; state = later })
   did_flush_committed fine later unsure took stays ready =
       did_committed g only_now old mid disk (CommitFlush number size) (flush_commits number size) file slot list c.writes result synced ran lists fine later unsure
       (λ told tells decided m s. flush_takes told tells decided m s later (took m s.has) (λ t. stays (subst IsTrue (sym synced.telling) (tells t))) (λ t. ready (subst IsTrue (sym synced.telling) (tells t))))
+      (λ told m s are. whole_after told m s later (took m s.has).infos are)
 
   pub did_flush_fail : (later : CoreState) → ((m : Machine) → HasState old.state m → HasState later (broken (g.faults disk) m)) → later.infos.items ≡ old.state.infos.items → later.read_only ≡ Some (g.faults disk)
       → unsure_of later ≡ unsure_of old.state → IsErr result → Did g old (CommitFlush number size) (Refused Fault) (record old { disk = disk; state = later })

@@ -29,6 +29,7 @@ use Rattle.store_core.specs.Cores.{HasState, StandsFor, StateShows, AreDescribed
 use Rattle.store_core.proofs.Counted.{Counted}
 use Rattle.page_cache.specs.Frames.{Frame}
 use Rattle.store_core.specs.Frames.{IsKept}
+use Rattle.store_core.proofs.ListedBlocks.{whole_kept, whole_same}
 use Rattle.store_core.proofs.Now.{FramesMoved, StandsNow, did_since}
 use Rattle.store_core.specs.Events.{Did, Between, KeepsFrames, unsure_after, end_of}
 use Rattle.store_core.proofs.Described.{described_same}
@@ -62,7 +63,7 @@ stands_kept told told' held held' may_leave may_leave' core core' m m' before fa
   logged = λ t free. logged (known t) free;
 }
 
-pub did_kept : {D : Type 0} (g : Ghosts D) (old : Core D) (disk : D) (frames : List Frame) (moved : FramesMoved g old frames) (state : CoreState) (event : Event) (left : KeepsFrames event old.cache frames) (reply : Reply)
+pub did_kept : {D : Type 0} (g : Ghosts D) (old : Core D) (disk : D) (frames : List Frame) (moved : FramesMoved g old frames) (state : CoreState) (listed : state.infos.items ≡ old.state.infos.items) (event : Event) (left : KeepsFrames event old.cache frames) (reply : Reply)
     → Counted g (end_of old.state event) reply old.disk disk
     → (IsTrue (g.tells old.disk) → (m : Machine) → StandsNow g old m → Run KeepsStored g.moment g.left_since g.may_leave old.disk disk)
     → unsure_of state ≡ unsure_of old.state → unsure_after event reply (unsure_of old.state) ≡ unsure_of old.state
@@ -76,7 +77,7 @@ pub did_kept : {D : Type 0} (g : Ghosts D) (old : Core D) (disk : D) (frames : L
     → MadeCalls event reply (g.calls old.disk) (g.calls disk)
     → RoseAtMost (reads_of event) (g.reads old.disk) (g.reads disk)
     → Did g old event reply (record old { disk = disk; state = state; cache = frames })
-did_kept {D} g old disk frames moved state event left reply counts run unsure same stands shows files kept empty page look calls reads = did_since g old _ _ _ refl moved left (record {
+did_kept {D} g old disk frames moved state listed event left reply counts run unsure same stands shows files kept empty page look calls reads = did_since g old _ _ _ refl moved left (record {
   stepped = λ m s.
       let after = stands m s in record {
         machine = after.0;
@@ -91,6 +92,7 @@ did_kept {D} g old disk frames moved state event left reply counts run unsure sa
   tidy = λ told m s tidy. widened g.moment g.left_since old.disk disk (Reached KeepsStored (g.may_leave old.disk)) IsTidy (run told m s).since (λ image from. from.2.tidy (tidy from.0 from.1));
   files = files;
   kept = kept;
+  whole = λ told m s are. whole_same (g.held disk) old.state.infos.items state.infos.items listed (whole_kept (g.held old.disk) (g.held disk) old.state m s.has (kept told m s) are);
   empty = empty;
   page = page;
   look = λ told m stands. look (λ file. bytes_of (g.held disk) file) m.history;

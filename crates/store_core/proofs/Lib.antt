@@ -11,6 +11,7 @@ mod States
 mod Logged
 mod HeldFiles
 mod KeptFiles
+mod ListedBlocks
 mod Frames
 mod OpenCompactions
 mod OpenJobs

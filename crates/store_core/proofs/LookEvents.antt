@@ -34,7 +34,7 @@ pub did_held : {D : Type 0} (g : Ghosts D) (only_now : OnlyNow g) (old : Core D)
     → held ≡ length old.state.live.flushing + length old.state.live.head + length old.state.live.live
     → Did g old Held (Count held) (record old { state = old.state })
 did_held g only_now old held is =
-    quiet g only_now old old.state Held (Count held) (λ file bytes. refl) (λ e. let bad : Count held ≡ Refused Fault = e in cc) (λ n. refl) refl refl (λ shows. tt) (λ told m s. tt)
+    quiet g only_now old old.state refl Held (Count held) (λ file bytes. refl) (λ e. let bad : Count held ≡ Refused Fault = e in cc) (λ n. refl) refl refl (λ shows. tt) (λ told m s. tt)
     (λ told m stands. (m, stands, refl, Succeeds refl (ap Count (is ∙ held_is old.state m stands.has), refl)))
 
 pub did_looked : {D : Type 0} (g : Ghosts D) (only_now : OnlyNow g) (old : Core D) (pins : Vec (Option (List ℕ)) Global) (number as_of : ℕ) (files : List ℕ) (rows : List Row)
@@ -45,7 +45,7 @@ pub did_looked : {D : Type 0} (g : Ghosts D) (only_now : OnlyNow g) (old : Core 
     → ((other : ℕ) → files_at other pins.items ≡ (if number == other then files else files_at other old.state.pins.items))
     → Did g old Look (Looked (record { pin = number; files = files; as_of = as_of; rows = rows })) (record old { state = record old.state { pins = pins } })
 did_looked {D} g only_now old pins number as_of files rows length_is sum listed is free least taken named =
-    quiet g only_now old (record old.state { pins = pins }) Look (Looked (record { pin = number; files = files; as_of = as_of; rows = rows })) (λ file bytes. refl) (λ e. let bad : Looked (record { pin = number; files = files; as_of = as_of; rows = rows }) ≡ Refused Fault = e in cc) (λ n. refl) refl refl (λ shows. tt)
+    quiet g only_now old (record old.state { pins = pins }) refl Look (Looked (record { pin = number; files = files; as_of = as_of; rows = rows })) (λ file bytes. refl) (λ e. let bad : Looked (record { pin = number; files = files; as_of = as_of; rows = rows }) ≡ Refused Fault = e in cc) (λ n. refl) refl refl (λ shows. tt)
     (λ told m s.
     let few = s.has.few in
     let whole : as_of ≡ old.state.segment.first + old.state.segment.count = omega (arith, sum, few) in
@@ -64,7 +64,7 @@ pub did_look_lacking : {D : Type 0} (g : Ghosts D) (only_now : OnlyNow g) (old :
     → ((other : ℕ) → files_at other pins.items ≡ files_at other old.state.pins.items)
     → Did g old Look (Refused Memory) (record old { state = record old.state { pins = pins } })
 did_look_lacking {D} g only_now old pins same same_files =
-    quiet g only_now old (record old.state { pins = pins }) Look (Refused Memory) (λ file bytes. refl) (λ e. let bad = refused_is Memory Fault e in cc) (λ n. refl) refl refl (λ shows. tt) (λ told m s. tt)
+    quiet g only_now old (record old.state { pins = pins }) refl Look (Refused Memory) (λ file bytes. refl) (λ e. let bad = refused_is Memory Fault e in cc) (λ n. refl) refl refl (λ shows. tt) (λ told m s. tt)
     (λ told m stands.
     let step : Step (g.faults old.disk) (g.faults old.disk) m Look (Refused Memory) (with_state m.state m) = Lacks refl refl refl refl in (
       with_state m.state m,
@@ -80,7 +80,7 @@ pub did_done : {D : Type 0} (g : Ghosts D) (only_now : OnlyNow g) (old : Core D)
     → ((other : ℕ) → files_at other pins.items ≡ (if number == other then [] else files_at other old.state.pins.items))
     → Did g old (Done number) Fine (record old { state = record old.state { pins = pins } })
 did_done {D} g only_now old pins number is_open taken named =
-    quiet g only_now old (record old.state { pins = pins }) (Done number) Fine (λ file bytes. refl) (λ e. let bad : Fine ≡ Refused Fault = e in cc) (λ n. refl) refl refl (λ shows. tt) (λ told m s. tt)
+    quiet g only_now old (record old.state { pins = pins }) refl (Done number) Fine (λ file bytes. refl) (λ e. let bad : Fine ≡ Refused Fault = e in cc) (λ n. refl) refl refl (λ shows. tt) (λ told m s. tt)
     (λ told m stands.
     let step = step_done m (g.faults old.disk) (g.faults old.disk) number (look_open old.state is_open.0 m number is_open.1.state.has stands.has is_open.2) in (
       with_state (after_done number m.state) m,

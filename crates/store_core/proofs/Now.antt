@@ -14,7 +14,7 @@ use Rattle.store_model.specs.Holds.{Hold, OpenIn, ends, files_of, own_files}
 use Rattle.store_model.specs.Step.{Machine, Step}
 use Rattle.store_state.specs.Meaning.{Rewritten, reads_of}
 use Rattle.store_state.specs.Calls.{MadeCalls, RoseAtMost}
-use Rattle.store_state.specs.Shown.{IsLookTaken}
+use Rattle.store_state.specs.Shown.{AreBlocks, IsLookTaken}
 use Rattle.store_state.specs.Written.{IsPageRead}
 use Rattle.store_images.specs.Stored.{IsTidy}
 use Rattle.store_core.specs.Files.{IsEmptied}
@@ -58,6 +58,9 @@ pub record DidNow {D : Type 0} (g : Ghosts D) (old : Core D) (event : Event) (re
   -- the files of listed and of pinned blocks hold what they held
   pub kept : IsTrue (g.tells old.disk) → (m : Machine) → StateShows g old m → (file : ℕ) → IsKept file m.state
       → bytes_of (g.held new.disk) file ≡ bytes_of (g.held old.disk) file
+  -- the listed blocks are blocks, as they were before it
+  pub whole : IsTrue (g.tells old.disk) → (m : Machine) → StateShows g old m → AreBlocks (λ file. bytes_of (g.held old.disk) file) old.state.infos.items
+      → AreBlocks (λ file. bytes_of (g.held new.disk) file) new.state.infos.items
   pub empty : IsTrue (g.tells old.disk) → (file : ℕ) → is_among file (own_files reply) ≡ true
       → IsEmptied (g.held new.disk) (g.may_leave new.disk) file
   pub page : IsTrue (g.tells old.disk) → IsPageRead event reply (λ file. bytes_of (g.held old.disk) file)
@@ -114,6 +117,7 @@ module _ {D : Type 0} (g : Ghosts D) (old new : Core D) (e : Event) (r : Reply) 
           one.0,
           record {
             state = one.1;
+            whole = λ told. let told_old = subst IsTrue did.counts.telling told in did.whole told_old m s.state (s.whole told_old);
             frames = frames_stay (IsTrue (g.tells old.disk)) (IsTrue (g.tells new.disk)) (g.held old.disk) (g.held new.disk) m one.0 (g.faults old.disk) (g.faults new.disk) e r new.cache
                 (λ t. subst IsTrue did.counts.telling t) (λ told file kept. did.kept told m s.state file kept) one.2 (frames m s.state s.frames);
           },

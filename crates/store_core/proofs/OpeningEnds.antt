@@ -24,12 +24,13 @@ use Rattle.store_images.specs.Log.{LogHolds}
 use Rattle.store_images.specs.Stored.{BlocksStand, ImageStandsFor, IsSoundImage, KeepsStored, first_number, ref_of}
 use Rattle.store_images.specs.Stored.ImageStores.{vacant}
 use Rattle.store_images.specs.Settled.{IsSettled}
+use Rattle.store_images.proofs.Lists.{in_map}
 use Rattle.store_images.proofs.Logs.{log_same}
 use Rattle.store_images.proofs.Keeping.{blocks_same, one_list, loaded, keeps_then}
 use Rattle.store_core.specs.declared.state.CoreState.{CoreState}
 use Rattle.store_core.specs.declared.store.Core.{Core}
 use Rattle.store_core.specs.BlockReading.{BlocksRead}
-use Rattle.store_core.specs.Cores.{AreDescribed, StandsFor, CoreStandsFor, tail_of}
+use Rattle.store_core.specs.Cores.{AreDescribed, ListsBlocks, StandsFor, CoreStandsFor, listed_as, tail_of}
 use Rattle.store_core.specs.LogReading.{LogRead}
 use Rattle.store_core.specs.New.{IsEmptyHistory, StoresNothing}
 use Rattle.store_core.specs.NewCore.{new_machine}
@@ -40,7 +41,8 @@ use Rattle.store_core.proofs.Founding.{empty_history, nothing_keeps}
 use Rattle.store_core.proofs.NewCores.{no_history, no_history_is_empty}
 use Rattle.store_core.proofs.LogLaws.{one_log}
 use Rattle.store_core.proofs.LogSteps.{read_whole}
-use Rattle.store_core.proofs.Described.{described_same}
+use Rattle.store_core.proofs.Described.{described_same, none_described}
+use Rattle.store_core.proofs.ListedBlocks.{whole_listed}
 use Rattle.store_core.proofs.LooseFiles.{block_used, stands_moved, used_low}
 use Rattle.store_core.proofs.ReadBlocks.{BlocksFound, block_in_list, blocks_found, one_blocks, same_block_files, told_refs, told_rows}
 use Rattle.store_state.specs.Shown.{told_block}
@@ -131,6 +133,7 @@ module _ {D : Type 0} (g : Ghosts D) where
       new_over = record {
         shows = record {
           state = tells_less _ ⊥ (g.held core.disk) (g.may_leave core.disk) core.state (new_machine no_history) (λ bad. absurd bad) (stands no_history no_history_is_empty).stands;
+          whole = λ told. ([], none_described (g.held core.disk) core.state.infos.items (stands no_history no_history_is_empty).stands.has.infos);
           frames = empty_fit (IsTrue (g.tells core.disk)) (g.held core.disk) (new_machine no_history).state core.cache empty;
         };
         empty = new_is_empty no_history;
@@ -220,10 +223,18 @@ module _ {D : Type 0} (g : Ghosts D) where
         stands_with (g.held disk) list blocks batches (base_of list blocks batches) is.store (agrees_stored list blocks batches sound.0 is.agrees is.store.floored is.counts)
         (let count : count_of (base_of list blocks batches) ≡ first_number list + length batches = omega arith in count)
 
+    -- the blocks that were checked are so still
+    listed_whole : ListsBlocks g core
+    listed_whole = λ told.
+        let known : IsTrue (g.tells mid) = told_mid (subst IsTrue telling_core told) in
+        whole_listed (g.held mid) (g.held core.disk) list.blocks core.state.infos.items
+        (λ x c. subst (λ (refs : List BlockRef). Contains refs (listed_as x)) state.infos (in_map listed_as core.state.infos.items x c))
+        (blocks_still known) (built.built known)
+
     over : (blocks : List Block) → StandsFor ⊥ (g.held core.disk) (g.may_leave core.disk) core.state (opened_machine list blocks batches moment (base_of list blocks batches))
         → OpensOver g core (opened_machine list blocks batches moment (base_of list blocks batches))
     over blocks shows = record {
-      shows = record { state = shows; frames = empty_fit (IsTrue (g.tells core.disk)) (g.held core.disk) (opened_state list blocks batches moment) core.cache empty };
+      shows = record { state = shows; whole = listed_whole; frames = empty_fit (IsTrue (g.tells core.disk)) (g.held core.disk) (opened_state list blocks batches moment) core.cache empty };
       empty = opened_is_empty list blocks batches moment (base_of list blocks batches);
       base_alone = refl;
       once = base_once list blocks batches;

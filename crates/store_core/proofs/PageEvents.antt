@@ -105,7 +105,7 @@ module _ {D : Type 0} (g : Ghosts D) (old : Core D) (disk : D) (pin block page :
 
   did_page : (bytes : List ℕ) → (IsTrue (g.tells old.disk) → bytes ≡ page_of (bytes_of (g.held old.disk) block) page) → Counted g 0 (Page bytes) old.disk disk → Did g old (ReadPage pin block page) (Page bytes) (record old { disk = disk; cache = frames })
   did_page bytes its counts =
-      did_kept g old disk frames moved old.state (ReadPage pin block page) tt (Page bytes) counts run_keeps refl refl
+      did_kept g old disk frames moved old.state refl (ReadPage pin block page) tt (Page bytes) counts run_keeps refl refl
       (λ m s. (m, after (IsTrue (g.tells old.disk)) (IsTrue (g.tells disk)) (λ t. subst IsTrue untouched.telling t) (λ t. t) m (Page bytes) s (Succeeds refl (bytes, refl, refl)), refl, Succeeds refl (bytes, refl, refl)))
       (λ m s. (m, after ⊥ ⊥ (λ bad. bad) (λ bad. absurd bad) m (Page bytes) s (Succeeds refl (bytes, refl, refl)), Succeeds refl (bytes, refl, refl)))
       (λ told m s hold is_open stays f among. untouched.same_bytes told f) (λ told m s f is. untouched.same_bytes told f)
@@ -115,7 +115,7 @@ module _ {D : Type 0} (g : Ghosts D) (old : Core D) (disk : D) (pin block page :
   no_page : Counted g 0 (Refused Fault) old.disk disk → Did g old (ReadPage pin block page) (Refused Fault) (record old { disk = disk; cache = frames })
   no_page counts =
       let rose = counted_rose g old.disk disk 0 counts in
-      did_kept g old disk frames moved old.state (ReadPage pin block page) tt (Refused Fault) counts run_keeps refl (adds_none (ReadPage pin block page) refl (Refused Fault) _)
+      did_kept g old disk frames moved old.state refl (ReadPage pin block page) tt (Refused Fault) counts run_keeps refl (adds_none (ReadPage pin block page) refl (Refused Fault) _)
       (λ m s. (m, after (IsTrue (g.tells old.disk)) (IsTrue (g.tells disk)) (λ t. subst IsTrue untouched.telling t) (λ t. t) m (Refused Fault) s (Unread refl refl rose refl), refl, Unread refl refl rose refl))
       (λ m s. (m, after ⊥ ⊥ (λ bad. bad) (λ bad. absurd bad) m (Refused Fault) s (Unread refl refl rose refl), Unread refl refl rose refl))
       (λ told m s hold is_open stays f among. untouched.same_bytes told f) (λ told m s f is. untouched.same_bytes told f)

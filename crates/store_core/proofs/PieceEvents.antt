@@ -36,7 +36,7 @@ use Rattle.store_core.proofs.States.{has_stopped}
 pub no_piece : {D : Type 0} (g : Ghosts D) (only_now : OnlyNow g) (old : Core D) (number file : ℕ) (bytes : List ℕ) (faults : ℕ) → old.state.read_only ≡ Some faults
     → Did g old (WritePiece number file bytes) (Refused (ReadOnly faults)) (record old { state = old.state })
 no_piece g only_now old number file bytes faults is =
-    quiet g only_now old old.state (WritePiece number file bytes) (Refused (ReadOnly faults)) (λ f b. refl) (λ e. let bad = refused_is (ReadOnly faults) Fault e in cc) (λ n. refl) refl refl (λ shows. tt) (λ told m s. tt)
+    quiet g only_now old old.state refl (WritePiece number file bytes) (Refused (ReadOnly faults)) (λ f b. refl) (λ e. let bad = refused_is (ReadOnly faults) Fault e in cc) (λ n. refl) refl refl (λ shows. tt) (λ told m s. tt)
     (λ told m stands. (m, stands, refl, Sure (ap (λ (r : Option ℕ). if_read_only r None) (stands.has.read_only ∙ is)) refl))
 
 module _ {D : Type 0} (g : Ghosts D) (only_now : OnlyNow g) (old : Core D) (disk : D) (number file at : ℕ) (bytes : List ℕ) (writes : old.state.read_only ≡ None)
@@ -78,7 +78,7 @@ module _ {D : Type 0} (g : Ghosts D) (only_now : OnlyNow g) (old : Core D) (disk
   pub did_piece : (IsTrue (g.tells old.disk) → bytes_of (g.held disk) file ≡ overwritten (bytes_of (g.held old.disk) file) at bytes) → (IsTrue (g.tells old.disk) → at ≡ length (bytes_of (g.held old.disk) file))
       → IsOk result → Did g old (WritePiece number file bytes) Fine (record old { disk = disk })
   did_piece written whole fine =
-      did_kept g old disk old.cache (λ m s fits. fits) old.state (WritePiece number file bytes) refl Fine (calls_fine g old.disk disk 1 (at + length bytes) (2 ^ 63) (λ low. omega (arith, low)) result made fine Fine (λ is. let bad : Fine ≡ Refused Fault = is in absurd cc)) run_keeps refl refl
+      did_kept g old disk old.cache (λ m s fits. fits) old.state refl (WritePiece number file bytes) refl Fine (calls_fine g old.disk disk 1 (at + length bytes) (2 ^ 63) (λ low. omega (arith, low)) result made fine Fine (λ is. let bad : Fine ≡ Refused Fault = is in absurd cc)) run_keeps refl refl
       (λ m s. (
         m,
         stands_kept (IsTrue (g.tells old.disk)) (IsTrue (g.tells disk)) (g.held old.disk) (g.held disk) (g.may_leave old.disk) (g.may_leave disk) old.state old.state m m (g.faults old.disk) (g.faults disk) (WritePiece number file bytes) Fine
@@ -114,7 +114,7 @@ module _ {D : Type 0} (g : Ghosts D) (only_now : OnlyNow g) (old : Core D) (disk
   did_piece_fail faults counted err =
       let rose = calls_rose g old.disk disk 1 (at + length bytes) (2 ^ 63) (λ low. omega (arith, low)) result made err in
       subst (λ (n : ℕ). Did g old (WritePiece number file bytes) (Refused Fault) (record old { disk = disk; state = record old.state { read_only = Some n } })) (sym counted)
-      (did_kept g old disk old.cache (λ m s fits. fits) (record old.state { read_only = Some (g.faults disk) }) (WritePiece number file bytes) refl (Refused Fault) (calls_fault g old.disk disk 1 (at + length bytes) (2 ^ 63) (λ low. omega (arith, low)) result made err) run_keeps refl (adds_none (WritePiece number file bytes) refl (Refused Fault) _)
+      (did_kept g old disk old.cache (λ m s fits. fits) (record old.state { read_only = Some (g.faults disk) }) refl (WritePiece number file bytes) refl (Refused Fault) (calls_fault g old.disk disk 1 (at + length bytes) (2 ^ 63) (λ low. omega (arith, low)) result made err) run_keeps refl (adds_none (WritePiece number file bytes) refl (Refused Fault) _)
       (λ m s. (
         broken (g.faults disk) m,
         stands_kept (IsTrue (g.tells old.disk)) (IsTrue (g.tells disk)) (g.held old.disk) (g.held disk) (g.may_leave old.disk) (g.may_leave disk) old.state (record old.state { read_only = Some (g.faults disk) }) m (broken (g.faults disk) m)

@@ -26,6 +26,7 @@ use Rattle.store_images.proofs.Storing.{only_tail, settled_after}
 use Rattle.store_core.specs.declared.store.Core.{Core}
 use Rattle.store_core.specs.Cores.{HasState, tail_of, unsure_of}
 use Rattle.store_core.proofs.Counted.{calls_fine, calls_fault, calls_rose, calls_exact, calls_most, calls_unread}
+use Rattle.store_core.proofs.ListedBlocks.{whole_kept}
 use Rattle.store_core.proofs.Now.{StandsNow, did_since}
 use Rattle.store_state.specs.Calls.{MadeCalls}
 use Rattle.store_core.specs.Events.{Did, Between, unsure_after, end_of}
@@ -56,14 +57,14 @@ pub did_refused : {D : Type 0} (g : Ghosts D) (only_now : OnlyNow g) (old : Core
     → ((m : Machine) → HasState old.state m → early m (Push spans moment) ≡ Some (Refused why)) → why ≢ Fault
     → Did g old (Push spans moment) (Refused why) (record old { state = old.state })
 did_refused g only_now old spans moment why is no_fault =
-    quiet g only_now old old.state (Push spans moment) (Refused why) (λ file bytes. refl) (λ e. no_fault (refused_is why Fault e)) (refused_calls spans moment why no_fault) refl refl (λ shows. tt) (λ told m s. tt)
+    quiet g only_now old old.state refl (Push spans moment) (Refused why) (λ file bytes. refl) (λ e. no_fault (refused_is why Fault e)) (refused_calls spans moment why no_fault) refl refl (λ shows. tt) (λ told m s. tt)
     (λ told m stands. (m, stands, refl, Sure (is m stands.has) refl))
 
 pub did_lacking : {D : Type 0} (g : Ghosts D) (only_now : OnlyNow g) (old : Core D) (live : LiveParts) (spans : List Span) (moment : ℕ)
     → SameParts old.state.live live → ((m : Machine) → HasState old.state m → early m (Push spans moment) ≡ None)
     → Did g old (Push spans moment) (Refused Memory) (record old { state = record old.state { live = live } })
 did_lacking {D} g only_now old live spans moment same free =
-    quiet g only_now old (record old.state { live = live }) (Push spans moment) (Refused Memory) (λ file bytes. refl) (λ e. let bad = refused_is Memory Fault e in cc) (λ n. refl) refl refl (λ shows. tt) (λ told m s. tt)
+    quiet g only_now old (record old.state { live = live }) refl (Push spans moment) (Refused Memory) (λ file bytes. refl) (λ e. let bad = refused_is Memory Fault e in cc) (λ n. refl) refl refl (λ shows. tt) (λ told m s. tt)
     (λ told m stands. (m, stands_lacking told (g.held old.disk) (g.may_leave old.disk) old.state live m same stands, refl, Lacks (free m stands.has) refl refl refl))
 
 -- ---- a record was added, or it may have been
@@ -168,6 +169,7 @@ module _ {D : Type 0} (g : Ghosts D) (old : Core D) (disk : D) (spans : List Spa
     tidy = tidy_in;
     files = λ told m stands hold is_open stays' f among. held_stays old.state m (g.held old.disk) (g.held disk) stands.has stands.sound (appends told).besides hold is_open f among;
     kept = λ told m s f is. kept_stays old.state m (g.held old.disk) (g.held disk) s.has s.sound (appends told).besides f is;
+    whole = λ told m s are. whole_kept (g.held old.disk) (g.held disk) old.state m s.has (λ f is. kept_stays old.state m (g.held old.disk) (g.held disk) s.has s.sound (appends told).besides f is) are;
     empty = λ told f among. none_begun (Count number) f _ refl among;
     page = λ told. tt;
     look = λ told m stands. tt;
@@ -200,6 +202,7 @@ module _ {D : Type 0} (g : Ghosts D) (old : Core D) (disk : D) (spans : List Spa
     tidy = tidy_in;
     files = λ told m stands hold is_open stays f among. held_stays old.state m (g.held old.disk) (g.held disk) stands.has stands.sound (appends told).besides hold is_open f among;
     kept = λ told m s f is. kept_stays old.state m (g.held old.disk) (g.held disk) s.has s.sound (appends told).besides f is;
+    whole = λ told m s are. whole_kept (g.held old.disk) (g.held disk) old.state m s.has (λ f is. kept_stays old.state m (g.held old.disk) (g.held disk) s.has s.sound (appends told).besides f is) are;
     empty = λ told f among. none_begun (Refused Fault) f _ refl among;
     page = λ told. tt;
     look = λ told m stands. tt;

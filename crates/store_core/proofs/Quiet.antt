@@ -19,6 +19,7 @@ use Rattle.store_core.specs.declared.state.CoreState.{CoreState}
 use Rattle.store_core.specs.declared.store.Core.{Core}
 use Rattle.store_core.specs.Cores.{StandsFor, unsure_of}
 use Rattle.store_core.proofs.Counted.{counted_none}
+use Rattle.store_core.proofs.ListedBlocks.{whole_same}
 use Rattle.store_core.proofs.Now.{StandsNow, did_since, frames_same}
 use Rattle.store_state.specs.Calls.{MadeCalls}
 use Rattle.store_core.specs.Events.{Did, Between, unsure_after, end_of}
@@ -46,7 +47,7 @@ one_begun own file P its among = by_test (own == file) refl
 
 -- An event that changes the memory alone, and answers no fault and no job.
 pub quiet : {D : Type 0} (g : Ghosts D) (only_now : (disk : D) (image : Image) → g.left_since disk (g.moment disk) image → g.may_leave disk image)
-    (old : Core D) (state : CoreState) (event : Event) (reply : Reply)
+    (old : Core D) (state : CoreState) (listed : state.infos.items ≡ old.state.infos.items) (event : Event) (reply : Reply)
     → ((file : ℕ) (bytes : List ℕ) → Rewritten event reply file bytes bytes)
     → reply ≢ Refused Fault → ((n : ℕ) → MadeCalls event reply n n) → own_files reply ≡ [] → unsure_of state ≡ unsure_of old.state
     → ((shows : ℕ → List ℕ) → IsPageRead event reply shows)
@@ -54,7 +55,7 @@ pub quiet : {D : Type 0} (g : Ghosts D) (only_now : (disk : D) (image : Image) �
     → ((told : Type 0) (m : Machine) → StandsFor told (g.held old.disk) (g.may_leave old.disk) old.state m → (m' : Machine) × StandsFor told (g.held old.disk) (g.may_leave old.disk) state m' × (m'.history ≡ m.history)
     × Step (g.faults old.disk) (g.faults old.disk) m event reply m')
     → Did g old event reply (record old { state = state })
-quiet {D} g only_now old state event reply still no_fault no_call begins same page look step = did_since g old _ _ _ refl (λ m s fits. fits) (frames_same event old.cache) (record {
+quiet {D} g only_now old state listed event reply still no_fault no_call begins same page look step = did_since g old _ _ _ refl (λ m s fits. fits) (frames_same event old.cache) (record {
   stepped = λ m stands. let done = step (IsTrue (g.tells old.disk)) m stands in record {
     machine = done.0;
     stands = done.1;
@@ -68,6 +69,7 @@ quiet {D} g only_now old state event reply still no_fault no_call begins same pa
   tidy = λ told m stands tidy. started g.moment g.left_since old.disk _ (λ image left. tidy image (only_now old.disk image left));
   files = λ told m stands hold is_open stays file among. still file _;
   kept = λ told m s file is. refl;
+  whole = λ told m s are. whole_same (g.held old.disk) old.state.infos.items state.infos.items listed are;
   empty = λ told file among. none_begun reply file _ begins among;
   page = λ told. page (λ file. bytes_of (g.held old.disk) file);
   look = look;

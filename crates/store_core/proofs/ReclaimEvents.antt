@@ -61,13 +61,13 @@ writes_then core m has writes = ap (λ (r : Option ℕ). if_read_only r None) (h
 pub no_reclaim : {D : Type 0} (g : Ghosts D) (only_now : OnlyNow g) (old : Core D) (faults : ℕ) → old.state.read_only ≡ Some faults
     → Did g old Reclaim (Refused (ReadOnly faults)) (record old { state = old.state })
 no_reclaim g only_now old faults is =
-    quiet g only_now old old.state Reclaim (Refused (ReadOnly faults)) (λ f b. refl) (λ e. let bad = refused_is (ReadOnly faults) Fault e in cc) (λ n. refl) refl refl (λ shows. tt) (λ told m s. tt)
+    quiet g only_now old old.state refl Reclaim (Refused (ReadOnly faults)) (λ f b. refl) (λ e. let bad = refused_is (ReadOnly faults) Fault e in cc) (λ n. refl) refl refl (λ shows. tt) (λ told m s. tt)
     (λ told m stands. (m, stands, refl, Sure (ap (λ (r : Option ℕ). if_read_only r None) (stands.has.read_only ∙ is)) refl))
 
 pub lacks_memory : {D : Type 0} (g : Ghosts D) (only_now : OnlyNow g) (old : Core D) → old.state.read_only ≡ None
     → Did g old Reclaim (Refused Memory) (record old { state = old.state })
 lacks_memory g only_now old writes =
-    quiet g only_now old old.state Reclaim (Refused Memory) (λ f b. refl) (λ e. let bad = refused_is Memory Fault e in cc) (λ n. refl) refl refl (λ shows. tt) (λ told m s. tt)
+    quiet g only_now old old.state refl Reclaim (Refused Memory) (λ f b. refl) (λ e. let bad = refused_is Memory Fault e in cc) (λ n. refl) refl refl (λ shows. tt) (λ told m s. tt)
     (λ told m stands. (m, stands, refl, Lacks (writes_then old.state m stands.has writes) refl refl refl))
 
 none_in : (xs : List ℕ) → length xs ≡ 0 → xs ≡ []
@@ -78,7 +78,7 @@ none_freed : {D : Type 0} (g : Ghosts D) (only_now : OnlyNow g) (old : Core D) �
     → ((m : Machine) → HasState old.state m → StateIsSound m.state → free_files m.state ≡ [])
     → Did g old Reclaim (Count 0) (record old { state = old.state })
 none_freed g only_now old writes none =
-    quiet g only_now old old.state Reclaim (Count 0) (λ f b. refl) (λ e. let bad : Count 0 ≡ Refused Fault = e in cc) (λ n. record { later = omega arith; at_most = omega arith; exact = λ few. omega arith }) refl refl (λ shows. tt) (λ told m s. tt)
+    quiet g only_now old old.state refl Reclaim (Count 0) (λ f b. refl) (λ e. let bad : Count 0 ≡ Refused Fault = e in cc) (λ n. record { later = omega arith; at_most = omega arith; exact = λ few. omega arith }) refl refl (λ shows. tt) (λ told m s. tt)
     (λ told m stands.
     let empty : free_files m.state ≡ [] = none m stands.has stands.sound in (
       m,
@@ -229,7 +229,7 @@ module _ {D : Type 0} (g : Ghosts D) (old : Core D) (disk : D) (writes : old.sta
 
   did_stopped : IsErr result → Did g old Reclaim (Refused Fault) (record old { disk = disk; state = stopped })
   did_stopped err =
-      did_kept g old disk old.cache (λ m s fits. fits) stopped Reclaim refl (Refused Fault) (calls_fault g old.disk disk (2 * length free + 6) end 0 (λ low. short) result made err) run_keeps refl (adds_none Reclaim refl (Refused Fault) _)
+      did_kept g old disk old.cache (λ m s fits. fits) stopped refl Reclaim refl (Refused Fault) (calls_fault g old.disk disk (2 * length free + 6) end 0 (λ low. short) result made err) run_keeps refl (adds_none Reclaim refl (Refused Fault) _)
       (λ m s. (
         broken (g.faults disk) m,
         stands_kept (IsTrue (g.tells old.disk)) (IsTrue (g.tells disk)) (g.held old.disk) (g.held disk) (g.may_leave old.disk) (g.may_leave disk) old.state stopped m (broken (g.faults disk) m)
@@ -303,7 +303,7 @@ module _ {D : Type 0} (g : Ghosts D) (old : Core D) (disk : D) (writes : old.sta
 
     did_emptied : Did g old Reclaim (Count count) (record old { disk = disk; state = after })
     did_emptied =
-        did_kept g old disk old.cache (λ m s fits. fits) after Reclaim refl (Count count)
+        did_kept g old disk old.cache (λ m s fits. fits) after refl Reclaim refl (Count count)
         (calls_fine g old.disk disk (2 * length free + 6) end 0 (λ low. short) result made fine (Count count) (λ is. let bad : Count count ≡ Refused Fault = is in absurd cc))
         run_keeps refl refl
         (λ m s. (

@@ -17,6 +17,7 @@ use Rattle.store_model.specs.Laws.{Agrees}
 use Rattle.store_model.specs.Sound.{StateIsSound}
 use Rattle.store_model.specs.Told.{IsAboveFloor}
 use Rattle.store_state.specs.Given.{info_files}
+use Rattle.store_state.specs.Shown.{AreBlocks}
 use Rattle.store_state.specs.Written.{AreBlocksOf}
 use Rattle.store_images.specs.Stored.{MayStandFor, ref_of}
 use Rattle.store_images.specs.Settled.{Tail, IsSettled}
@@ -115,7 +116,13 @@ pub record CoreStandsFor {D : Type 0} (g : Ghosts D) (core : Core D) (m : Machin
 abbrev pub StateShows : {D : Type 0} (g : Ghosts D) → Core D → Machine → Type 0
 StateShows {D} g core m = StandsFor ⊥ (g.held core.disk) (g.may_leave core.disk) core.state m
 
--- The core's memory shows the machine, whatever its disk holds: by what it keeps, and by the frames of its page cache.
+-- Where its disk tells bytes the file of each listed block is one, of some rows, as its information describes it.
+abbrev pub ListsBlocks : {D : Type 0} (g : Ghosts D) → Core D → Type 0
+ListsBlocks g core = IsTrue (g.tells core.disk) → AreBlocks (λ file. bytes_of (g.held core.disk) file) core.state.infos.items
+
+-- The core's memory shows the machine, whatever its disk holds: by what it keeps, and by the frames of its page cache. Each block that
+-- it lists is one: an opening checked it, or it was written as one since. So it needs no sound store.
 pub record CoreShows {D : Type 0} (g : Ghosts D) (core : Core D) (m : Machine) : Type 0 where
   pub state : StateShows g core m
+  pub whole : ListsBlocks g core
   pub frames : FramesFit (IsTrue (g.tells core.disk)) (g.held core.disk) m.state core.cache

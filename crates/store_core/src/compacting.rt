@@ -197,6 +197,10 @@ impl<D: Device> Core<D> {
             → IfOk result (λ begun. IfSome begun (λ job. (m : Machine) →
             CoreStandsFor D.Device.own self.new m
             → AreBlocks (λ file. bytes_of (D.held self.new.disk) file) job.pin.blocks)) }
+        ensures whole { IsTrue (D.tells self.new.disk)
+            → IfOk result (λ begun. IfSome begun (λ job. (m : Machine) →
+            CoreShows D.Device.own self.old m
+            → AreBlocks (λ file. bytes_of (D.held self.new.disk) file) job.pin.blocks)) }
     {
         // The level of what is joined has room.
         a_choice_is_few();

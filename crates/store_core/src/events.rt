@@ -1,12 +1,13 @@
 //! The events of a store.
 
-ghost use Rattle.std.specs.Prelude.{◌≡◌, IfOk};
+ghost use Rattle.std.specs.Prelude.{◌≡◌, IfOk, IsTrue};
 ghost use Rattle.disk_model.specs.Images.{bytes_of};
 ghost use Rattle.store_model.specs.Event.Event.{Push, Held, Look as TakeLook, Done};
 ghost use Rattle.store_model.specs.Event.Reply.{Count, Fine};
 ghost use Rattle.store_model.specs.Step.{Machine, IsLookPin};
 ghost use Rattle.store_state.specs.Kept.{Kept, HasKept};
 ghost use Rattle.store_state.specs.Replies.{push_reply, look_reply};
+ghost use Rattle.store_state.specs.Shown.{AreBlocks};
 ghost use Rattle.store_core.specs.Cores.{CoreStandsFor, CoreShows, held_in};
 ghost use Rattle.store_core.specs.Events.{Did};
 ghost use Rattle.store_core.specs.Kept.{CoreKeeps, IsLeft};
@@ -71,6 +72,9 @@ impl<D: Device> Core<D> {
         ensures infos { IfOk result (λ look. look.pin.blocks ≡ self.old.state.infos.items) }
         ensures kept { IfOk result (λ look. (kept : Kept) → CoreKeeps D.Device.own self.old kept →
             HasKept (λ file. bytes_of (D.held self.new.disk) file) look kept) }
+        ensures whole { IsTrue (D.tells self.new.disk) → IfOk result (λ look.
+            (m : Machine) → CoreShows D.Device.own self.old m
+            → AreBlocks (λ file. bytes_of (D.held self.new.disk) file) look.pin.blocks) }
         ensures left { IsLeft D.Device.own self.old self.new }
         ensures shows { IfOk result (λ look. (m : Machine) → CoreStandsFor D.Device.own self.new m →
             LookShows D.Device.own self.new look m.history) }

@@ -36,13 +36,17 @@ pub trait LookPort {
         ensures { Called meaning self.old Held (Count result) self.new };
 
     /// Takes a look: all rows outside of blocks, and a pin on all listed blocks. Together they have the first occurrences of each
-    /// history that is known after it. What the port keeps stays as it was.
+    /// history that is known after it. What the port keeps stays as it was. Where bytes are told, and the port says what is open in
+    /// it, the file of each block that it pins is one, as its information describes it.
     fn look(&mut self) -> Result<Look, Memory>
         ensures called { Called meaning self.old TakeLook (look_reply result) self.new }
         ensures pins { IfOk result (λ look. (infos : List InfoParts) → meaning.lists self.old infos
             → look.pin.blocks ≡ infos) }
         ensures kept { IfOk result (λ look. (kept : Kept) → meaning.keeps self.old kept
             → HasKept (meaning.shows self.new) look kept) }
+        ensures whole { IsTrue (meaning.tells self.new) → IfOk result (λ look.
+            (held : List Hold) → meaning.holds self.old held
+            → AreBlocks (meaning.shows self.new) look.pin.blocks) }
         ensures left { LeavesKept meaning self.old self.new }
         ensures shows { IfOk result (λ look. (v : View) → meaning.knows self.new v →
             ShowsHistory (IsTrue (meaning.tells self.new))
@@ -133,7 +137,8 @@ pub trait FlushPort: LookPort {
 /// files.
 pub trait Port: FlushPort {
     /// Begins a compaction of the blocks that are to be joined next; none where no two of a level below 63 fit together. Their
-    /// files hold blocks as their information describes them where bytes are told and a history is known after it.
+    /// files hold blocks as their information describes them where bytes are told, and a history is known after it or the port says
+    /// what is open in it.
     fn begin_compact(&mut self) -> Result<Option<CompactJob>, BeginError>
         ensures called { Called Self.meaning self.old BeginCompact
             (begin_compact_reply result) self.new }
@@ -144,6 +149,10 @@ pub trait Port: FlushPort {
         ensures blocks { IsTrue (Self.meaning.tells self.new)
             → IfOk result (λ begun. IfSome begun (λ job.
             (v : View) → Self.meaning.knows self.new v
+            → AreBlocks (Self.meaning.shows self.new) job.pin.blocks)) }
+        ensures whole { IsTrue (Self.meaning.tells self.new)
+            → IfOk result (λ begun. IfSome begun (λ job.
+            (held : List Hold) → Self.meaning.holds self.old held
             → AreBlocks (Self.meaning.shows self.new) job.pin.blocks)) };
 
     /// Lists a compaction's block, which its file holds and the information describes, where bytes are told, in the place of those

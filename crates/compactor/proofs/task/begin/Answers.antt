@@ -1,10 +1,11 @@
-use Rattle.std.proofs.Common.{◌≡◌, ◌+◌, ◌*◌, ◌^◌, ◌≤◌, length, [], ◌∷◌, zero, refl, sym, subst, ap, false, Bool, arith}
+use Rattle.std.proofs.Common.{List, ◌≡◌, ◌+◌, ◌*◌, ◌^◌, ◌≤◌, length, [], ◌∷◌, zero, refl, sym, subst, ap, false, Bool, arith}
 use Rattle.std.specs.Prelude.{IsTrue, ◌||◌, Option, Some, None, Ok, IfSome}
 use Rattle.store_model.specs.Event.Event.{BeginCompact}
 use Rattle.store_model.specs.Event.{Reply as reply}
-use Rattle.store_state.specs.Given.{compact_of, info_files, compact_parts}
+use Rattle.store_model.specs.Holds.{Hold}
+use Rattle.store_state.specs.Given.{compact_of, compact_parts}
 use Rattle.store_state.specs.Made.{call}
-use Rattle.store_state.specs.Meaning.{View, Meaning, Called}
+use Rattle.store_state.specs.Meaning.{Meaning, Called}
 use Rattle.store_state.specs.Replies.{begin_compact_reply, begin_refusal}
 use Rattle.store_state.specs.Shown.{AreBlocks, JoinsChoice}
 use Rattle.store_state.specs.declared.jobs.CompactJob.{CompactJob}
@@ -53,15 +54,13 @@ returns-in-Ok-Some-clause-fits g c =
     (λ tells. called.empty (subst IsTrue called.telling tells) j.out.file (ap (λ (t : Bool). t || false) (itself j.out.file))))
 
 pub returns-in-Ok-Some-clause-found : goal.returns-in-Ok-Some-clause-found
-returns-in-Ok-Some-clause-found g c = λ knows.
+returns-in-Ok-Some-clause-found g c =
     let meaning = g.P.LookPort.meaning in
     let old = c.args.port.now in
     let new = c.begin_compact.new.self in
-    let j : CompactJob = c.in-Ok-Some.job in
-    let o : Option CompactJob = c.in-Ok-Some.field-0 in
-    let after = (replied meaning old new o (Some j) c.in-Ok-Some.field-0-is c.in-Ok-Some.ensures.called).learns knows.0 knows.1 in
     subst (λ (t : Task). FindsBlocks meaning t new) (sym c.unread.ensures)
-    (λ tells. known o j (λ (job : CompactJob). (v : View) → meaning.knows new v → AreBlocks (meaning.shows new) job.pin.blocks) c.in-Ok-Some.field-0-is (c.in-Ok-Some.ensures.blocks tells) after.0 after.1)
+    (λ tells. known c.in-Ok-Some.field-0 c.in-Ok-Some.job (λ (job : CompactJob). (held : List Hold) → meaning.holds old held → AreBlocks (meaning.shows new) job.pin.blocks) c.in-Ok-Some.field-0-is
+    (c.in-Ok-Some.ensures.whole tells) c.requires.0 c.requires.1)
 
 pub returns-in-Ok-None-clause-steps : goal.returns-in-Ok-None-clause-steps
 returns-in-Ok-None-clause-steps g c = record {
@@ -79,7 +78,7 @@ returns-in-Err-clause-steps g c = record {
 }
 
 pub returns-in-Err-clause-found : goal.returns-in-Err-clause-found
-returns-in-Err-clause-found g c = λ knows tells. subst (λ (why : Refusal). FoundBlocks (Refused why)) (sym c.begin_cause.ensures) (begin_found c.in-Err.error)
+returns-in-Err-clause-found g c = λ tells. subst (λ (why : Refusal). FoundBlocks (Refused why)) (sym c.begin_cause.ensures) (begin_found c.in-Err.error)
 
 pub returns-in-Ok-Some-clause-left : goal.returns-in-Ok-Some-clause-left
 returns-in-Ok-Some-clause-left g c =

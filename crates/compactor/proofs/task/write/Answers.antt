@@ -2,7 +2,7 @@ use Rattle.std.proofs.Common.{◌≡◌, ◌≤◌, ◌+◌, ℕ, List, length, 
 use Rattle.store_model.specs.Event.Event.{WritePiece}
 use Rattle.store_model.specs.Event.{Reply as reply}
 use Rattle.store_model.specs.Event.Reply.{Fine}
-use Rattle.store_state.specs.Given.{compact_of, info_files, compact_parts}
+use Rattle.store_state.specs.Given.{compact_of, compact_parts}
 use Rattle.store_state.specs.Given.IsJobOf.{OfCompact}
 use Rattle.store_state.specs.Made.{call}
 use Rattle.store_state.specs.Replies.{write_refusal}

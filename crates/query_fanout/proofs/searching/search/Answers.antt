@@ -25,7 +25,7 @@ done-requires g c = c.search_of_look-found.ensures.pages.stays.is_open
 pub returns-clause-asked : goal.returns-clause-asked
 returns-clause-asked g c =
     has_asked g.P.LookPort.meaning c.args.port.now (IsSearchAnswer c.args.asked.now) c.look.new.self c.search_of_look-found.new.port c.done.new.self c.in-Ok.look c.search_of_look-found.result
-    (search_tells_firsts c.args.asked.now) c.in-Ok.ensures.called c.in-Ok.ensures.shows c.search_of_look-found.ensures c.done.ensures.called
+    (search_tells_firsts c.args.asked.now) c.in-Ok.ensures.called c.in-Ok.ensures.shows c.search_of_look-found.ensures c.done.ensures.called c.requires c.in-Ok.ensures.whole
 
 pub returns-clause-bounded : goal.returns-clause-bounded
 returns-clause-bounded g c = λ told kept keeps.

@@ -1,4 +1,4 @@
-use Rattle.std.proofs.Common.{◌+◌, ◌∙◌, ◌++◌, [], ◌∷◌, Ok, arith, inl, inr, length-append, refl, sym}
+use Rattle.std.proofs.Common.{◌∙◌, ◌++◌, [], ◌∷◌, Ok, arith, inl, inr, length-append, refl, sym}
 use Rattle.session_text.specs.declared.request.Request.TheVariants.{Compact}
 use Rattle.trace_shell.proofs.DrillLemmas.{joined_push, made_holds, made_then}
 use Rattle.trace_shell.proofs.drilling.compact_all.Goals as goal

@@ -1,4 +1,4 @@
-use Rattle.std.proofs.Common.{arith, IsTrue, false, true, List, [], Option, ap, inl, inr, refl, subst, sym, ◌∙◌, ℕ}
+use Rattle.std.proofs.Common.{arith, IsTrue, false, true, List, [], Option, ap, inl, inr, refl, subst, sym, ℕ}
 use Rattle.command_words.specs.Commands.{Serve}
 use Rattle.session_meaning.specs.Runs.{Edges, edges}
 use Rattle.session_meaning.specs.ServedRuns.{RecoversServed}

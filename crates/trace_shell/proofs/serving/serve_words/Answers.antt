@@ -1,4 +1,4 @@
-use Rattle.std.proofs.Common.{◌≡◌, ⊎_elim, true, false, Err, ap, inl, inr, map, refl, string_bytes, subst, ◌∙◌}
+use Rattle.std.proofs.Common.{⊎_elim, true, false, Err, ap, inl, inr, map, refl, string_bytes, subst, ◌∙◌}
 use Rattle.command_words.specs.Commands.{Serve, Spells, command_of}
 use Rattle.command_words.specs.declared.asked.Asked.{Asked}
 use Rattle.command_words.proofs.Spelled.{begins_serves, spelled_clean}

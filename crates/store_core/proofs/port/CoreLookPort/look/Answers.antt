@@ -12,6 +12,9 @@ returns-clause-called g c = did_is_called g.D.Device c.args.self.now _ _ _ c.tak
 pub returns-clause-pins : goal.returns-clause-pins
 returns-clause-pins g c = if_ok_more c.take_look.result _ _ (λ look same infos told. same ∙ sym told) c.take_look.ensures.infos
 
+pub returns-clause-whole : goal.returns-clause-whole
+returns-clause-whole g c = λ told. if_ok_more c.take_look.result _ _ (λ look whole held known. whole known.machine known.shown) (c.take_look.ensures.whole told)
+
 pub returns-clause-shows : goal.returns-clause-shows
 returns-clause-shows g c =
     let d = g.D.Device in

@@ -11,3 +11,7 @@ returns-clause-joins g c = λ held known. c.begin_compact.ensures.joins known.ma
 pub returns-clause-blocks : goal.returns-clause-blocks
 returns-clause-blocks g c = λ told.
     if_ok_more c.begin_compact.result _ _ (λ begun. if_some_more begun _ _ (λ job blocks v known. blocks known.machine known.stands)) (c.begin_compact.ensures.blocks told)
+
+pub returns-clause-whole : goal.returns-clause-whole
+returns-clause-whole g c = λ told.
+    if_ok_more c.begin_compact.result _ _ (λ begun. if_some_more begun _ _ (λ job whole held known. whole known.machine known.shown)) (c.begin_compact.ensures.whole told)

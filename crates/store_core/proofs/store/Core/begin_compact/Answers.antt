@@ -1,4 +1,4 @@
-use Rattle.std.proofs.Common.{◌≡◌, ℕ, List, None, refl, sym, ◌∙◌, subst, arith}
+use Rattle.std.proofs.Common.{◌≡◌, ℕ, List, None, IsTrue, refl, sym, ◌∙◌, subst, arith}
 use Rattle.std.specs.Prelude.{Vec}
 use Rattle.std.specs.declared.alloc.Global.{Global}
 use Rattle.disk_model.specs.Images.{OnFile}
@@ -16,7 +16,7 @@ use Rattle.store_core.specs.Files.{SameBelow}
 use Rattle.store_core.specs.Beginning.{MayCompact, IsMade}
 use Rattle.store_core.proofs.Apart.{below_change, emptied}
 use Rattle.store_core.proofs.CompactBegins.{did_choose_none}
-use Rattle.store_core.proofs.CompactMakes.{did_refused, did_not_make, did_made, did_made_fail, joins_made, blocks_made, blocks_still, of_some}
+use Rattle.store_core.proofs.CompactMakes.{did_refused, did_not_make, did_made, did_made_fail, joins_made, blocks_made, blocks_still, of_some, whole_made}
 use Rattle.store_core.proofs.store.Core.begin_compact.Goals as goal
 
 pub returns-in-Ok-None-clause-begun : goal.returns-in-Ok-None-clause-begun
@@ -70,6 +70,15 @@ pub returns-in-Ok-cut_through-clause-blocks : goal.returns-in-Ok-cut_through-cla
 returns-in-Ok-cut_through-clause-blocks g c = λ told m s.
     let made : IsMade c.args.self.now.state c.as_slice.result.now c.in-Ok.level c.in-Ok.pin c.in-Ok.room c.make_compact.new.self = c.in-Ok.ensures.made in
     blocks_made g.D.Device _ c.as_slice.result.now c.in-Ok.pin.blocks m (made.blocks ∙ blocks_still c.args.self.now.state c.make_compact.new.self c.as_slice.result.now made.still) told s
+
+pub returns-in-Ok-cut_through-clause-whole : goal.returns-in-Ok-cut_through-clause-whole
+returns-in-Ok-cut_through-clause-whole g c = λ told m s.
+    let d = g.D.Device in
+    let core = c.args.self.now in
+    let made : IsMade core.state c.as_slice.result.now c.in-Ok.level c.in-Ok.pin c.in-Ok.room c.make_compact.new.self = c.in-Ok.ensures.made in
+    let known : IsTrue (d.tells core.disk) = subst IsTrue c.in-Ok-cut_through.ensures.counted.telling told in
+    whole_made d core c.cut_through.new.disk c.as_slice.result.now c.in-Ok.pin.blocks c.make_compact.new.self.jobs.next_file m made.blocks made.still.keeps.same.next_file
+    (c.cut_through.ensures.besides known) s.state (s.whole known)
 
 pub returns-clause-begun : goal.returns-clause-begun
 returns-clause-begun g c =

@@ -5,6 +5,7 @@ use Rattle.disk_model.specs.Images.{bytes_of}
 use Rattle.store_state.specs.Given.{info_files}
 use Rattle.store_state.specs.Written.{AreBlocksOf}
 use Rattle.store_core.specs.Pins.{files_at}
+use Rattle.store_core.proofs.ListedBlocks.{whole_same}
 use Rattle.store_core.proofs.Showing.{look_shows}
 use Rattle.store_core.proofs.LookEvents.{did_looked, did_look_lacking}
 use Rattle.store_core.proofs.store.Core.take_look.Goals as goal
@@ -59,6 +60,10 @@ returns-in_err-number-clause-left g c = record { infos = refl; live = refl; tell
 
 pub returns-clause-left : goal.returns-clause-left
 returns-clause-left g c = record { infos = refl; live = refl; telling = refl; bytes = λ told file. refl }
+
+pub returns-clause-whole : goal.returns-clause-whole
+returns-clause-whole g c = λ told m s.
+    whole_same (g.D.Device.held c.args.self.now.disk) c.args.self.now.state.infos.items c.in_ok-blocks.blocks c.in_ok-blocks.ensures (s.whole told)
 
 pub returns-clause-kept : goal.returns-clause-kept
 returns-clause-kept g c = λ kept k.
