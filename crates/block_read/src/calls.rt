@@ -1,4 +1,4 @@
-//! The calls that read a block.
+//! The entry points: `trace_rows` and `check_bytes`, which the program calls, and `all_rows` and `check_block`, which tests do.
 
 ghost use Rattle.std.specs.Prelude.{◌≡◌, ◌*◌, ◌≤◌, ℕ, IfOk, IsTrue, List};
 ghost use Rattle.std.specs.Int.{div_ceil};

@@ -11,7 +11,7 @@ pub enum ReadError {
     /// The bytes of the file are no block; `at` is the first byte of the first field that is malformed.
     #[error("no block in file {file}, at {at}")]
     NotBlock { file: u32, at: u64 },
-    /// Memory was wanted and not given.
+    /// Out of memory.
     #[error("memory")]
     Memory,
 }

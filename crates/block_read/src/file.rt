@@ -17,7 +17,7 @@ use std::alloc::Global;
 pub enum Unread {
     /// A page could not be read.
     Fault,
-    /// Memory was wanted and not given.
+    /// Out of memory.
     Memory,
 }
 

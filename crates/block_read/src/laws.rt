@@ -1,4 +1,6 @@
-//! Laws of reading blocks: what the bytes of a block stand for is read, and nothing else is.
+//! Theorems about reading blocks: what the bytes of a block stand for is read, and nothing else is.
+//!
+//! The contract of each function is the statement, and its proof stands in `proofs/laws/`. Who calls one has its contract.
 
 ghost use Rattle.std.specs.Prelude.{◌≡◌, ◌*◌, ℕ, List, Ok, length};
 ghost use Rattle.span_types.specs.declared.spans.Row.{Row};

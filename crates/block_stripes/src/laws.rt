@@ -1,4 +1,6 @@
-//! Laws of stripes: no bytes stand for two lists of rows, and each is read.
+//! Theorems about stripes: no bytes stand for two lists of rows, and each is read.
+//!
+//! Each function has an empty body: its contract is the statement, and its proof stands in `proofs/laws/`. Who calls one has its contract.
 
 ghost use Rattle.std.specs.Prelude.{◌≡◌, ℕ, [], List, Ok};
 ghost use Rattle.span_types.specs.declared.spans.Row.{Row};

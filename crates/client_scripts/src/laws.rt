@@ -1,4 +1,6 @@
-//! What follows for the calls that scripts make.
+//! Theorems about the calls that scripts make.
+//!
+//! Each function has an empty body, and nothing calls it: its contract is the statement, and its proof stands in `proofs/laws/`.
 
 ghost use Rattle.std.specs.Prelude.{List};
 ghost use Rattle.session_text.specs.Items.{Item};

@@ -1,4 +1,4 @@
-//! The block of the rows of several blocks.
+//! The rows of joined blocks to the bytes of their block. Nothing here touches a port.
 
 ghost use Rattle.std.specs.Prelude.{◌≡◌, ◌≤◌, false, length, IfOk};
 ghost use Rattle.std.specs.List.{flat_map};

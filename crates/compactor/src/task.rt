@@ -60,7 +60,7 @@ impl CompactTask {
         }
     }
 
-    /// Makes the next event of the round. Behind its end it makes none and answers the same end again.
+    /// Makes the next event of the round. After its end it makes none and answers the same end again.
     ///
     /// All steps of a task are made on one port, or on those that stand for it, so that the job stays open. Where the port
     /// tells its bytes no block is found to be malformed.

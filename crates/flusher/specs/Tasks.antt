@@ -65,7 +65,7 @@ pub record OneEvent {P : Type 0} (meaning : Meaning P) (before : Task) (old : P)
   pub called : Called meaning old made.event made.reply new
   pub leads : (calls : List Call) (round : Round) → Leads (stage_of after) calls round → Leads (stage_of before) (made ∷ calls) round
 
--- A step makes one event. Behind the end of its round it makes none.
+-- A step makes one event. After the end of its round it makes none.
 abbrev pub Steps : {P : Type 0} → Meaning P → Task → P → Task → P → Type 0
 Steps meaning (Ended round) old after new = (after ≡ Ended round) × (new ≡ old)
 Steps meaning before old after new = OneEvent meaning before old after new

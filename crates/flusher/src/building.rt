@@ -1,4 +1,4 @@
-//! The block of a flush's rows.
+//! A flush's rows to the bytes of its block. Nothing here touches a port.
 
 ghost use Rattle.std.specs.Prelude.{◌≡◌, ◌≤◌, length, IfOk};
 ghost use Rattle.flusher.specs.Rounds.{IsFlushBlock};

@@ -55,7 +55,7 @@ impl FlushTask {
         }
     }
 
-    /// Makes the next event of the round. Behind its end it makes none and answers the same end again.
+    /// Makes the next event of the round. After its end it makes none and answers the same end again.
     ///
     /// All steps of a task are made on one port, or on those that stand for it, so that the job stays open.
     pub fn step<P: FlushPort>(&mut self, port: &mut P) -> Step

@@ -1,4 +1,6 @@
-//! What follows for calls that were made one after another.
+//! Theorems about calls that were made one after another.
+//!
+//! Each function has an empty body, and nothing calls it: its contract is the statement, and its proof stands in `proofs/laws/`.
 
 ghost use Rattle.std.specs.Prelude.{◌≡◌, ◌≤◌, ◌++◌, ◌∷◌, [], ℕ, List, map};
 ghost use Rattle.store_model.specs.Event.{Event, Reply};

@@ -1,5 +1,10 @@
 //! A store's port that several seats share in turns, and the one order of their calls.
 //!
+//! - Sharing: `shared` (the port that is shared), `ticket` (a right to a seat), `seat` (split, joined, left).
+//! - A call of a seat: `turn` has its steps; `look_port`, `flush_port` and `port` the calls of the three traits.
+//! - For proofs alone: `known` (what a seat knows), `asked` (a call and its reply), `plays` (what each step on the table tells).
+//! - Theorems, whose functions have empty bodies: `held`, `made`, `crosses` and, over a core, `cores`.
+//!
 //! `specs/Rule.antt` has the rule of the table that they share and what each kind of step tells; `port_history` the calls in their
 //! order.
 #![tactic(auto)]

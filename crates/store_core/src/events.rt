@@ -1,4 +1,4 @@
-//! The events of a store.
+//! Events that touch no block: pushes, looks and their ends.
 
 ghost use Rattle.std.specs.Prelude.{◌≡◌, IfOk, IsTrue};
 ghost use Rattle.disk_model.specs.Images.{bytes_of};

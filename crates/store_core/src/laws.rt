@@ -1,4 +1,6 @@
-//! Laws of cores.
+//! A theorem about cores: what a crash left at any moment since the opening.
+//!
+//! The function has an empty body, and nothing calls it: its contract is the statement, and its proof stands in `proofs/laws/`.
 
 ghost use Rattle.store_model.specs.History.{count_of};
 ghost use Rattle.store_model.specs.Event.{Event, Reply};

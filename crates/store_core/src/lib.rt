@@ -1,5 +1,14 @@
 //! The store over a disk: its events, each of which is a step of the store's model, and what a crash may leave at any moment.
 //!
+//! - What a core is: `store` (a core), `state` (its memory), `jobs` and `room` (open jobs and the memory of their commits), `pins`,
+//!   `since` (the moment of its opening, for contracts alone).
+//! - Opening, from disk to memory: `opening` has the entry point; `blocks` and `reading` (with `reviving`) read, `loose` and `left`
+//!   free files, `new_store` makes a new store; `error`.
+//! - Events, from memory to disk: `events` (pushes and looks; `admit` refuses), `cutting`, `flushing` (with `making`) and
+//!   `committing`, `compacting`, `reclaiming`; `next_list` makes the lists of commits.
+//! - Pages of blocks, from disk to a caller: `pages`.
+//! - `port` is a core as a port, and `laws` has a theorem.
+//!
 //! `specs/Cores.antt` says what a core stands for, `specs/Events.antt` what one event makes of it.
 #![tactic(auto)]
 

@@ -1,4 +1,4 @@
-//! A store is opened.
+//! Opening, and its order: list, blocks, log, loose files; or a new store.
 
 ghost use Rattle.std.specs.Prelude.{◌≡◌, ◌≢◌, ◌≤◌, ◌+◌, ◌-◌, ℕ, List, [], drop, map, replicate, Option, None, Some, Err, IsTrue, IfOk, IfErr, OnOk};
 ghost use Rattle.std.specs.List.{Contains};

@@ -1,4 +1,4 @@
-//! The log of a store is read as it is opened.
+//! Opening: the segments that the list names, to rows in memory.
 
 ghost use Rattle.std.specs.Prelude.{◌≡◌, ◌≤◌, ◌+◌, ◌++◌, ℕ, List, Err, IsTrue, IfOk, OnOk};
 ghost use Rattle.std.specs.List.{Contains};

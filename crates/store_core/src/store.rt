@@ -1,4 +1,4 @@
-//! A store over a disk.
+//! A core: a disk, what is in memory, and the page cache.
 
 ghost use Rattle.std.specs.Prelude.{◌≡◌};
 

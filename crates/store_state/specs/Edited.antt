@@ -50,7 +50,7 @@ abbrev pub released_by : Option NewSegment → List SegmentRef → List ℕ
 released_by None segments = []
 released_by (Some new) segments = released new.floor (map segment_of (segments ++ new.segment ∷ []))
 
--- The list that comes after one by an edit. What leaves the list is loose behind the files that are, and behind it stand the files of
+-- The list that comes after one by an edit. What leaves the list is loose after the files that are, and after it stand the files of
 -- jobs that stay open.
 pub record IsEdited (list : ListBody) (edit : Edit) (next : ListBody) : Type 0 where
   pub generation : next.generation ≡ successor list.generation

@@ -16,7 +16,7 @@ abbrev pub picked : List ℕ → List Block → List Block
 picked [] blocks = []
 picked (at ∷ positions) blocks = take 1 (drop at blocks) ++ picked positions blocks
 
--- positions that ascend, the first at one or behind it, and all before an end
+-- positions that ascend, the first at one or after it, and all before an end
 abbrev pub Ascend : ℕ → ℕ → List ℕ → Type 0
 Ascend from end [] = Unit {0}
 Ascend from end (at ∷ positions) = (from ≤ at) × (at < end) × Ascend (at + 1) end positions

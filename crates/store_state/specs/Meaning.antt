@@ -53,7 +53,7 @@ Learns event reply h h' =
     (others : List Entry) × (h' ≡ history_after event reply (grown h others))
     × TellsLength event reply (grown h others)
 
--- What a call makes of a file that stays held: a piece goes behind the file's bytes. Nothing is said of the bytes of a file
+-- What a call makes of a file that stays held: a piece goes after the file's bytes. Nothing is said of the bytes of a file
 -- once a write of it failed; a piece that is refused for another cause leaves it as it is.
 abbrev pub Rewritten : Event → Reply → ℕ → List ℕ → List ℕ → Type 0
 Rewritten (WritePiece number own bytes) Fine file old new = new ≡ (if own == file then old ++ bytes else old)

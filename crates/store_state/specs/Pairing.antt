@@ -38,7 +38,7 @@ abbrev pub from_pair : ℕ → Option ℕ → List BlockRef → List ℕ
 from_pair level None blocks = []
 from_pair level (Some at) blocks = with_partners level at (drop at blocks)
 
--- what a walk from the end knows of the blocks behind a position
+-- what a walk from the end knows of the blocks after a position
 pub record IsPairing (pairing : Pairing) (at : ℕ) (blocks : List BlockRef) : Type 0 where
   pub smallest : pairing.smallest ≡ smallest pairing.level blocks
   pub found : pairing.found ≡ pair_at pairing.level at blocks

@@ -10,7 +10,7 @@ use Rattle.store_model.specs.Event.Event.{ReadPage}
 use Rattle.store_model.specs.Event.Reply.{Page}
 use Rattle.store_state.specs.declared.jobs.JobFile.{JobFile}
 
--- a page of a file; behind the file's end it has zeros
+-- a page of a file; past the file's end it has zeros
 abbrev pub page_of : List ℕ → ℕ → List ℕ
 page_of bytes page = take 4096 (drop (page * 4096) bytes ++ replicate 4096 0)
 

@@ -1,4 +1,6 @@
-//! What a step of the machine is to a port that shows it, and what a list has of the machine's state.
+//! Theorems about steps of the machine as a port shows them, and about lists.
+//!
+//! Each function has an empty body: its contract is the statement, and its proof stands in `proofs/laws/`. Who calls one has its contract.
 
 ghost use Rattle.std.specs.Prelude.{◌≡◌, ◌≤◌, ◌++◌, ℕ, List, length, map};
 ghost use Rattle.block_info.specs.InfoParts.{InfoParts};

@@ -1,7 +1,12 @@
 //! The calls of a store: the traits `LookPort`, `FlushPort` and `Port`, whose contracts say of each call what it makes of all
 //! that a port shows.
 //!
-//! The machine behind the calls stands in `store_model`; `specs/Meaning.antt` says what a port shows and what one call does to
+//! - The calls: `port`; what they give out, `jobs`; why they refuse, `errors`; how a round ends, `rounds`.
+//! - What a store needs to carry them out, on lists alone: `choice` (which blocks are joined), `listing` (an edit of the list, with
+//!   `parts` and `room`). Nothing here touches a disk.
+//! - `laws` has theorems.
+//!
+//! The machine that a port shows is that of `store_model`; `specs/Meaning.antt` says what a port shows and what one call does to
 //! it.
 #![tactic(auto)]
 

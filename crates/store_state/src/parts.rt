@@ -59,7 +59,7 @@ fn part_segments(
     put(segments, last);
 }
 
-// What stands behind a position.
+// What stands after a position.
 fn follower(now: &[SegmentRef], last: SegmentRef, at: usize) -> SegmentRef
     requires { at < length now.now }
     ensures { drop (at + 1) now.now ++ last ∷ []

@@ -116,7 +116,7 @@ pub trait FlushPort: LookPort {
         requires { IsOpen Self.meaning self.now (flush_of job) }
         ensures { Called Self.meaning self.old (DropFlush job.out.number) Fine self.new };
 
-    /// Reads a page of a pinned block as it was when the pin was taken. Behind the file's end it has zeros.
+    /// Reads a page of a pinned block as it was when the pin was taken. Past the file's end it has zeros.
     fn read_page(
         &mut self,
         pin: &Pin,

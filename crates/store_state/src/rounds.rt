@@ -36,7 +36,7 @@ pub enum Round {
     Did { blocks: u32, rows: u32 },
     /// There was nothing to do.
     Nothing,
-    /// A call was refused, memory was wanted, or a block isn't one.
+    /// A call was refused, memory ran out, or a block isn't one.
     Refused(Refusal),
 }
 
