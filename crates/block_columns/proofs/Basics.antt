@@ -44,3 +44,12 @@ beside_rights {A} {B} (x ∷ xs) (y ∷ ys) e = ap (λ (l : List B). y ∷ l) (b
 pub beside_parts : {A B : Type 0} (rows : List (A × B)) → beside (map (λ (r : A × B). r.0) rows) (map (λ (r : A × B). r.1) rows) ≡ rows
 beside_parts [] = refl
 beside_parts {A} {B} (r ∷ rows) = ap (λ (l : List (A × B)). r ∷ l) (beside_parts rows)
+
+pub beside_no_left : {A B : Type 0} (xs : List A) (ys : List B) → length xs ≡ 0 → beside xs ys ≡ []
+beside_no_left [] ys e = refl
+beside_no_left (x ∷ xs) ys e = absurd (omega (arith, e))
+
+pub beside_no_right : {A B : Type 0} (xs : List A) (ys : List B) → length ys ≡ 0 → beside xs ys ≡ []
+beside_no_right [] ys e = refl
+beside_no_right (x ∷ xs) [] e = refl
+beside_no_right (x ∷ xs) (y ∷ ys) e = absurd (omega (arith, e))

@@ -1,5 +1,5 @@
 -- For private clauses: what a call answers.
-use Rattle.std.specs.Prelude.{◌≡◌, ℕ, List, [], ◌∷◌, Option, Some, None, Result, Ok, Err}
+use Rattle.std.specs.Prelude.{◌≡◌, ℕ, Result, Ok, Err}
 use Rattle.span_fields.specs.declared.breaks.Break.{Break}
 use Rattle.span_fields.specs.Breaks.{Fails}
 
@@ -12,8 +12,3 @@ Finds view (Err e) new read = Fails e read
 abbrev pub Tells : {Y : Type 0} → Result Y Break → Result Y ℕ → Type 0
 Tells (Ok x) read = read ≡ Ok x
 Tells (Err e) read = Fails e read
-
--- What a call took of a list is its first item, and the others are left; or there was none.
-abbrev pub Takes : {A : Type 0} → List A → Option A → List A → Type 0
-Takes old (Some x) new = old ≡ x ∷ new
-Takes old None new = old ≡ []

@@ -1,17 +1,13 @@
 //! Columns: so many values of one kind.
 
-ghost use Rattle.std.specs.Prelude.{◌≡◌, ℕ, List, Result};
-ghost use Rattle.std.specs.Vec.Iter.{into_iter_items};
+ghost use Rattle.std.specs.Prelude.{◌≡◌, ℕ, List, Result, IfOk};
 ghost use Rattle.block_columns.specs.ColumnReadings.{Spot, beside, both_at, column_at, counted_at};
-ghost use Rattle.block_columns.specs.Outcomes.{Finds, Takes};
+ghost use Rattle.block_columns.specs.Outcomes.{Finds};
 
 use crate::Fields;
 use span_fields::Break;
+use span_types::Memory;
 use std::alloc::Global;
-use std::vec::IntoIter;
-
-/// Room is taken at once for so many values at most.
-const ROOM: u64 = 256;
 
 /// A kind of values that a column has.
 pub trait Kind {
@@ -26,7 +22,7 @@ pub trait Kind {
         ensures { Finds (λ x. x) result fields.new (reading self.now fields.old) };
 }
 
-/// So many values. Before they are there, their number takes room for a few alone.
+/// So many values. Their number takes no memory before the values are there.
 pub fn column<K: Kind>(
     alloc: Global,
     fields: &mut Fields,
@@ -36,7 +32,7 @@ pub fn column<K: Kind>(
     ensures { Finds (λ x. x.items) result fields.new
         (column_at (K.reading kind.now) count fields.old) }
 {
-    let mut values = Vec::with_capacity(alloc, count.min(ROOM) as usize)?;
+    let mut values = Vec::new(alloc);
     for _ in 0..count {
         let value = kind.read(fields)?;
         values.push(value)?;
@@ -54,39 +50,20 @@ pub fn counted<K: Kind>(alloc: Global, fields: &mut Fields, kind: &K) -> Result<
     column(alloc, fields, kind, count)
 }
 
-/// Rows that are taken one after another. They lie in columns, and the cells of a row are brought together as it is taken.
-pub trait RowQueue: Drop {
-    /// A row.
-    type Row: Drop;
-
-    /// The rows that are still to be taken.
-    ghost rows: { Self → List Self.Row };
-
-    /// Takes the next row.
-    fn take_row(&mut self) -> Option<Self::Row>
-        ensures { Takes (rows self.old) result (rows self.new) };
-}
-
-impl<T: Drop> RowQueue for IntoIter<T> {
-    type Row = T;
-
-    ghost rows = { into_iter_items };
-
-    fn take_row(&mut self) -> Option<T> {
-        self.next()
+/// Each value of one column with that of the other in its row.
+pub fn beside<A: Drop, B: Drop>(
+    alloc: Global,
+    left: Vec<A>,
+    right: Vec<B>,
+) -> Result<Vec<(A, B)>, Memory>
+    ensures { IfOk result (λ rows. rows.items ≡ beside left.items right.items) }
+{
+    let mut rows = Vec::new(alloc);
+    rows.reserve(left.len())?;
+    for row in left.into_iter().zip(right) {
+        rows.push(row)?;
     }
-}
-
-impl<L: RowQueue, R: RowQueue> RowQueue for (L, R) {
-    type Row = (L::Row, R::Row);
-
-    ghost rows = { λ q. beside (L.rows q.0) (R.rows q.1) };
-
-    fn take_row(&mut self) -> Option<(L::Row, R::Row)> {
-        let left = self.0.take_row()?;
-        let right = self.1.take_row()?;
-        Some((left, right))
-    }
+    Ok(rows)
 }
 
 /// Columns of rows.
@@ -94,15 +71,17 @@ pub trait Columns {
     /// What a row has of them.
     type Item: Drop;
 
-    /// What was read of them.
-    type Cells: RowQueue<Row = Self::Item>;
-
     /// What reading so many rows gives.
     ghost reading: { Self → ℕ → Spot → Result (List Self.Item × Spot) ℕ };
 
     /// So many rows.
-    fn read_all(&self, alloc: Global, fields: &mut Fields, count: u64) -> Result<Self::Cells, Break>
-        ensures { Finds Self.Cells.rows result fields.new (reading self.now count fields.old) };
+    fn read_all(
+        &self,
+        alloc: Global,
+        fields: &mut Fields,
+        count: u64,
+    ) -> Result<Vec<Self::Item>, Break>
+        ensures { Finds (λ x. x.items) result fields.new (reading self.now count fields.old) };
 }
 
 /// One column.
@@ -115,8 +94,6 @@ pub struct Single<K> {
 impl<K: Kind> Columns for Single<K> {
     type Item = K::Item;
 
-    type Cells = IntoIter<K::Item>;
-
     ghost reading = { λ c n s. column_at (K.reading c.kind) n s };
 
     fn read_all(
@@ -124,9 +101,8 @@ impl<K: Kind> Columns for Single<K> {
         alloc: Global,
         fields: &mut Fields,
         count: u64,
-    ) -> Result<IntoIter<K::Item>, Break> {
-        let values = column(alloc, fields, &self.kind, count)?;
-        Ok(values.into_iter())
+    ) -> Result<Vec<K::Item>, Break> {
+        column(alloc, fields, &self.kind, count)
     }
 }
 
@@ -142,8 +118,6 @@ pub struct Both<L, R> {
 impl<L: Columns, R: Columns> Columns for Both<L, R> {
     type Item = (L::Item, R::Item);
 
-    type Cells = (L::Cells, R::Cells);
-
     ghost reading = { λ c n s. both_at (L.reading c.left) (R.reading c.right) n s };
 
     #[tactic(auto, unfolding(crate::specs::ColumnReadings::both_at))]
@@ -152,10 +126,11 @@ impl<L: Columns, R: Columns> Columns for Both<L, R> {
         alloc: Global,
         fields: &mut Fields,
         count: u64,
-    ) -> Result<(L::Cells, R::Cells), Break> {
+    ) -> Result<Vec<(L::Item, R::Item)>, Break> {
         let left = self.left.read_all(alloc, fields, count)?;
         let right = self.right.read_all(alloc, fields, count)?;
-        Ok((left, right))
+        let rows = beside(alloc, left, right)?;
+        Ok(rows)
     }
 }
 

@@ -10,7 +10,7 @@ mod fields;
 mod pages;
 mod tables;
 
-pub use columns::{Both, Columns, Kind, RowQueue, Single, column, counted, further};
+pub use columns::{Both, Columns, Kind, Single, beside, column, counted, further};
 pub use fields::Fields;
 pub use pages::{Borrowed, Page, Put, put_column, put_counted, put_table};
 pub use tables::{Owners, Referred, table, unused};

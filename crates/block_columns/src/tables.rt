@@ -12,7 +12,6 @@ use span_fields::Break;
 use span_types::TryCopy;
 use std::alloc::Global;
 use std::hash::Hash;
-use std::vec::IntoIter;
 
 /// A table: a count, and so many values, no two of which are equal.
 #[tactic(auto, unfolding(crate::specs::ColumnReadings::counted_at))]
@@ -102,17 +101,10 @@ pub struct Owners<'t, T, K> {
 impl<'t, T: TryCopy, K: Kind> Columns for Owners<'t, T, K> {
     type Item = T;
 
-    type Cells = IntoIter<T>;
-
     ghost reading = { λ o n s. owners_at (K.reading o.kind) o.list o.table.now n s };
 
     #[tactic(auto, using(crate::proofs::ReadingSteps::malformed_any), unfolding(crate::specs::ColumnReadings::owners_at))]
-    fn read_all(
-        &self,
-        alloc: Global,
-        fields: &mut Fields,
-        count: u64,
-    ) -> Result<IntoIter<T>, Break> {
+    fn read_all(&self, alloc: Global, fields: &mut Fields, count: u64) -> Result<Vec<T>, Break> {
         let outer = fields.used();
         fields.count_from(0);
         let kind = Referred { table: self.table };
@@ -120,7 +112,7 @@ impl<'t, T: TryCopy, K: Kind> Columns for Owners<'t, T, K> {
         let used = fields.used();
         fields.count_from(outer);
         if used == self.table.len() {
-            return Ok(values.into_iter());
+            return Ok(values);
         }
         Err(unused(alloc, &self.list, &self.kind, used as u64))
     }

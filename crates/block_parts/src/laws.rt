@@ -1,6 +1,4 @@
-//! Theorems about the encodings of parts: no bytes stand for two values, and each value is read.
-//!
-//! Each function has an empty body, and nothing calls it: its contract is the statement, and its proof stands in `proofs/laws/`.
+//! Laws of the parts: none of their bytes stand for two values, and each is read.
 
 ghost use Rattle.std.specs.Prelude.{ℕ, List};
 ghost use Rattle.block_columns.specs.ColumnLaws.{EncodedReads, ReadsEncoded};

@@ -1,5 +1,5 @@
 -- What the calls that read a stripe come to.
-use Rattle.std.proofs.Common.{◌≡◌, ℕ, zero, suc, ◌+◌, ◌-◌, ◌<◌, ◌≤◌, Bool, true, false, not, ◌&&◌, cond, eqb, ltb, get_or, append_assoc, List, [], ◌∷◌, ◌++◌, length, map, take, drop, Result, Ok, Err, refl, sym, ap, subst, ◌∙◌, arith}
+use Rattle.std.proofs.Common.{◌≡◌, ℕ, zero, suc, ◌+◌, ◌-◌, ◌<◌, ◌≤◌, Bool, true, false, not, ◌&&◌, cond, eqb, ltb, get_or, append_assoc, List, [], ◌∷◌, ◌++◌, length, take, drop, Result, Ok, Err, refl, sym, ap, subst, ◌∙◌, arith}
 use Rattle.std.specs.Int.{w64, from_le_bytes}
 use Rattle.std.specs.List.{AllByRecursion}
 use Rattle.std.specs.Ordering.{is_lt}
@@ -10,16 +10,11 @@ use Rattle.span_types.specs.Orders.{block_order}
 use Rattle.byte_fields.specs.declared.error.FieldError.{FieldError}
 use Rattle.byte_fields.specs.declared.error.FieldError.TheVariants.{Short}
 use Rattle.byte_fields.specs.Reading.{Stand, ◌>>=◌, ahead, fixed64_at, left, raw_at}
-use Rattle.span_fields.specs.declared.breaks.Break.{Break}
-use Rattle.span_fields.specs.declared.breaks.Break.TheVariants as breaks
-use Rattle.span_fields.specs.Breaks.{Answers, in_part, or_place}
+use Rattle.span_fields.specs.Breaks.{in_part, or_place}
 use Rattle.span_fields.proofs.Meant.{Bound, bound}
-use Rattle.block_columns.specs.ColumnReadings.{Read, Spot, made_at}
-use Rattle.block_columns.specs.Outcomes.{Finds}
-use Rattle.block_columns.proofs.Basics.{same_read}
 use Rattle.block_columns.proofs.Numbering.{position_step}
-use Rattle.block_stripes.specs.StripeReadings.{ascend_after, zeros}
-use Rattle.block_stripes.specs.StripeRows.{Cells}
+use Rattle.block_stripes.specs.StripeReadings.{ascend_after, rows_of, zeros}
+use Rattle.block_stripes.specs.StripeRows.{Cells, row_of}
 use Rattle.block_stripes.specs.Stripes.{IsNamed}
 
 enough : {A E : Type 0} (b : Bool) (e : E) (r : Result A E) (y : A) → cond b (Err e) r ≡ Ok y → b ≡ false
@@ -66,27 +61,16 @@ ascend_more before row rest i total lt is test so_far =
     let cells : drop i rest ≡ row ∷ later = drop_more rest i row lt ∙ ap (λ (r : Row). r ∷ later) (sym is) in
     sym (ap (λ (c : Bool). c && ascend_after row later) test) ∙ sym (ap (ascend_after before) cells) ∙ so_far
 
--- ---- what is made of cells, as a loop makes it
+-- ---- rows of cells, as a loop makes them
 
-pub made_go : {C R : Type 0} (make : C → R) (made new : List R) (before after : List C) (cells : C) (one : R) (all : List R) → before ≡ cells ∷ after → one ≡ make cells → new ≡ made ++ one ∷ [] → made ++ map make before ≡ all → new ++ map make after ≡ all
-made_go {C} {R} make made new before after cells one all next is more so_far =
-    ap (λ (l : List R). l ++ map make after) more ∙ append_assoc made (one ∷ []) (map make after) ∙ ap (λ (r : R). made ++ (r ∷ map make after)) is
-    ∙ ap (λ (l : List C). made ++ map make l) (sym next) ∙ so_far
+pub rows_go : (rows new : List Row) (before after : List Cells) (cells : Cells) (row : Row) (all : List Row) → before ≡ cells ∷ after → row ≡ row_of cells → new ≡ rows ++ row ∷ [] → rows ++ rows_of before ≡ all → new ++ rows_of after ≡ all
+rows_go rows new before after cells row all next is more so_far =
+    ap (λ (l : List Row). l ++ rows_of after) more ∙ append_assoc rows (row ∷ []) (rows_of after) ∙ ap (λ (r : Row). rows ++ (r ∷ rows_of after)) is
+    ∙ ap (λ (l : List Cells). rows ++ rows_of l) (sym next) ∙ so_far
 
-pub made_end : {C R : Type 0} (make : C → R) (made : List R) (rest : List C) (all : List R) → rest ≡ [] → made ++ map make rest ≡ all → made ≡ all
-made_end {C} make made rest all none so_far = sym (append-nil made) ∙ ap (λ (l : List C). made ++ map make l) (sym none) ∙ so_far
-
--- what is made of all, without the place where the reader then stands
-pub made_answers : {X Y A : Type 0} (view : X → Y) (make : A → Y) (result : Result X Break) (read : Read A) (s t : Spot) → Finds view result t (made_at make read s) → Answers view result (read s >>= λ x. Ok (make x.0))
-unfolding made_at
-made_answers {X} {Y} {A} view make result read s t = by result (read s)
-  where
-    by : (result : Result X Break) (r : Result (A × Spot) ℕ) → Finds view result t (r >>= λ x. Ok (make x.0, x.1)) → Answers view result (r >>= λ x. Ok (make x.0))
-    by (Ok x) (Ok y) h = (let same = same_read (make y.0) (view x) y.1 t h in ap (λ (z : Y). Ok z) same.0)
-    by (Ok x) (Err at) h = absurd (cc)
-    by (Err breaks.Memory) r h = tt
-    by (Err (breaks.At place)) (Ok y) h = absurd (cc)
-    by (Err (breaks.At place)) (Err at) h = (let same : at ≡ place = cc in ap (λ (k : ℕ). Err k) same)
+pub rows_end : (rows : List Row) (rest : List Cells) (all : List Row) → length rest ≡ 0 → rows ++ rows_of rest ≡ all → rows ≡ all
+rows_end rows [] all none so_far = sym (append-nil rows) ∙ so_far
+rows_end rows (cells ∷ rest) all none so_far = absurd (omega (arith, none))
 
 pub named_next : (before after : List Cells) (cells : Cells) → before ≡ cells ∷ after → AllByRecursion IsNamed before → IsNamed cells × AllByRecursion IsNamed after
 named_next before after cells next all = subst (AllByRecursion IsNamed) next all

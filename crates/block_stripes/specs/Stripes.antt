@@ -8,7 +8,6 @@ use Rattle.byte_fields.specs.Reading.{AreBytes}
 use Rattle.span_fields.specs.Sound.{AreSound, IsBelow64, IsParent, IsSpanId, IsTrace, IsWord}
 use Rattle.block_columns.specs.ColumnEncodings.{first_uses}
 use Rattle.block_columns.specs.ColumnLaws.{IsOnlyIf}
-use Rattle.block_columns.specs.ColumnReadings.{Read, Spot}
 use Rattle.block_stripes.specs.declared.error.FormatError.{FormatError}
 use Rattle.block_stripes.specs.declared.error.FormatError.TheVariants.{NotBlock, Memory}
 use Rattle.block_parts.specs.PartsKept.{AreKeptAttrs, IsKeptEvent, IsKeptLink, IsKeptResource, IsKeptScope}
@@ -96,10 +95,6 @@ pub record AreWhole (extended : Bool) (rows : List Row) : Type 0 where
 -- no id of these cells is all zeros: not the trace's, nor the span's, nor its parent's
 abbrev pub IsNamed : Cells → Type 0
 IsNamed cells = (all_zero cells.0.0 ≡ false) × ((all_zero cells.1.0.0 ≡ false) × (IfSome cells.1.1.0 (λ parent. all_zero parent.0 ≡ false) × Unit {0}))
-
--- no id of the cells that this reading gives is all zeros
-abbrev pub ReadsNamed : Read (List Cells) → Type 0
-ReadsNamed read = (s t : Spot) (cells : List Cells) → read s ≡ Ok (cells, t) → AllByRecursion IsNamed cells
 
 -- What a call that reads a stripe from this offset of its file on gives is what reading gives, counted from the file's first byte.
 -- No offset is past the end of the bytes.

@@ -1,22 +1,22 @@
-//! The columns of a stripe, one after another, and its rows, which are nested pairs of their cells.
+//! The columns of a stripe, read row by row as nested pairs of cells.
 
-ghost use Rattle.block_columns.specs.ColumnReadings.{made_at};
+ghost use Rattle.std.specs.Prelude.{IfOk};
+ghost use Rattle.std.specs.List.{AllByRecursion};
 ghost use Rattle.block_columns.specs.Outcomes.{Finds};
-ghost use Rattle.block_stripes.specs.StripeReadings.{cells_at, owners_by, rows_of, unasked_at};
+ghost use Rattle.block_stripes.specs.StripeReadings.{cells_at, owners_by, unasked_at};
+ghost use Rattle.block_stripes.specs.Stripes.{IsNamed};
 
 use crate::kinds::{
     AttrLists, EventLists, LinkLists, Moments, Numbers, Parents, Positions, Resources, Scopes,
     SpanIds, SpanKinds, Statuses, TraceIds,
 };
-use crate::rows::read_rows;
 use block_columns::{Both, Columns, Fields, Kind, Owners, Referred, Single, column};
 use span_fields::Break;
 use span_types::{
-    Attrs, Events, Links, Row, SharedResource, SharedScope, SpanId, SpanKind, StatusCode, Text,
-    TraceId, TryCopy,
+    Attrs, Events, Links, SharedResource, SharedScope, SpanId, SpanKind, StatusCode, Text, TraceId,
+    TryCopy,
 };
 use std::alloc::Global;
-use std::vec::IntoIter;
 
 /// Resource, scope, attributes, events, links.
 type OwnerCells = (SharedResource, (SharedScope, (Attrs, (Events, Links))));
@@ -60,17 +60,10 @@ struct OwnersBy<'t, T, K> {
 impl<'t, T: TryCopy, K: Kind> Columns for OwnersBy<'t, T, K> {
     type Item = T;
 
-    type Cells = IntoIter<T>;
-
     ghost reading = { λ o n s. owners_by o.strict (K.reading o.owners.kind) o.owners.list o.owners.table.now n s };
 
     #[tactic(auto, unfolding(crate::specs::StripeReadings::unasked_at))]
-    fn read_all(
-        &self,
-        alloc: Global,
-        fields: &mut Fields,
-        count: u64,
-    ) -> Result<IntoIter<T>, Break> {
+    fn read_all(&self, alloc: Global, fields: &mut Fields, count: u64) -> Result<Vec<T>, Break> {
         if self.strict {
             return self.owners.read_all(alloc, fields, count);
         }
@@ -81,24 +74,24 @@ impl<'t, T: TryCopy, K: Kind> Columns for OwnersBy<'t, T, K> {
         };
         let values = column(alloc, fields, &kind, count)?;
         fields.count_from(outer);
-        Ok(values.into_iter())
+        Ok(values)
     }
 }
 
-/// So many rows.
+/// The cells of so many rows.
 #[tactic(auto, unfolding(crate::specs::StripeReadings::cells_at))]
-pub fn cell_rows(
+pub fn cells(
     alloc: Global,
     fields: &mut Fields,
     tables: &Tables,
     resources: Listed<SharedResource>,
     scopes: Listed<SharedScope>,
     count: u64,
-) -> Result<Vec<Row>, Break>
+) -> Result<Vec<Cells>, Break>
     ensures { Finds (λ x. x.items) result fields.new
-        (made_at rows_of (cells_at tables.now.strict tables.now.extended tables.now.texts.now
+        (cells_at tables.now.strict tables.now.extended tables.now.texts.now
         (record { list = resources.entry.list; values = resources.entry.values.now })
-        (record { list = scopes.entry.list; values = scopes.entry.values.now }) count) fields.old) }
+        (record { list = scopes.entry.list; values = scopes.entry.values.now }) count fields.old) }
 {
     let texts = tables.texts;
     let extended = tables.extended;
@@ -182,5 +175,5 @@ pub fn cell_rows(
             },
         },
     };
-    read_rows(alloc, fields, &columns, count)
+    columns.read_all(alloc, fields, count)
 }

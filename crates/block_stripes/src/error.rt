@@ -8,7 +8,7 @@ pub enum FormatError {
     /// The bytes break the format of a block; `at` is the first byte in the file of the first field that does.
     #[error("no block, at {at}")]
     NotBlock { at: u64 },
-    /// Out of memory.
+    /// Memory was wanted and not given.
     #[error("memory")]
     Memory,
 }

@@ -4,23 +4,24 @@ ghost use Rattle.std.specs.Prelude.{◌≡◌, ◌+◌, ◌^◌, ◌++◌, ◌<�
 ghost use Rattle.block_stripes.specs.StripeEncodings.{fill_size};
 ghost use Rattle.block_stripes.specs.StripeReadings.{unfilled, zeros};
 
-use block_info::PAGE_SIZE;
 use byte_fields::Writer;
 use span_types::Memory;
+
+const PAGE_BYTES: usize = 4096;
 
 /// How many bytes are wanting to whole pages.
 pub fn fill_size(size: usize) -> usize
     ensures size { result ≡ fill_size size }
     ensures few { result ≤ 4096 }
 {
-    (PAGE_SIZE - size % PAGE_SIZE) % PAGE_SIZE
+    (PAGE_BYTES - size % PAGE_BYTES) % PAGE_BYTES
 }
 
 /// Adds zeros after so many bytes, up to a whole page.
 pub fn put_fill(out: &mut Writer, size: usize) -> Result<(), Memory>
     ensures { OnOk result (out.new ≡ out.old ++ replicate (fill_size size) 0) }
 {
-    let zeros = [0; PAGE_SIZE];
+    let zeros = [0; PAGE_BYTES];
     out.raw(&zeros[..fill_size(size)])
 }
 

@@ -1,6 +1,4 @@
-//! Theorems about stripes: no bytes stand for two lists of rows, and each is read.
-//!
-//! Each function has an empty body: its contract is the statement, and its proof stands in `proofs/laws/`. Who calls one has its contract.
+//! Laws of stripes: no bytes stand for two lists of rows, and each is read.
 
 ghost use Rattle.std.specs.Prelude.{◌≡◌, ℕ, [], List, Ok};
 ghost use Rattle.span_types.specs.declared.spans.Row.{Row};

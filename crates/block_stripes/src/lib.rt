@@ -1,11 +1,4 @@
 //! The stripes of a block, rows in columns, written and read; what their bytes stand for.
-//!
-//! - Writing, rows to bytes: `stripe_writing`, over the columns of `row_puts`; `fill` ends a page.
-//! - Reading, bytes to rows: `stripe_reading` makes `cells` of the columns (`kinds`), and `rows` rows of them; `starts` reads only how many
-//!   there are and when they start. `error` says why bytes are none.
-//! - `laws` has theorems: no bytes stand for two lists of rows.
-//!
-//! `specs/Stripes.antt` says what bytes stand for; `docs/BLOCK-FORMAT.md` has them.
 #![tactic(auto)]
 
 mod cells;

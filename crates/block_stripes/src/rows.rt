@@ -4,15 +4,11 @@ ghost use Rattle.std.specs.Prelude.{◌≡◌, IfOk};
 ghost use Rattle.std.specs.List.{AllByRecursion};
 ghost use Rattle.std.specs.Ordering.{is_lt};
 ghost use Rattle.span_types.specs.Orders.{block_order};
-ghost use Rattle.block_columns.specs.ColumnReadings.{made_at};
-ghost use Rattle.block_columns.specs.Outcomes.{Finds};
 ghost use Rattle.block_stripes.specs.StripeReadings.{ascend, rows_of};
 ghost use Rattle.block_stripes.specs.StripeRows.{row_of};
-ghost use Rattle.block_stripes.specs.Stripes.{IsNamed, ReadsNamed};
+ghost use Rattle.block_stripes.specs.Stripes.{IsNamed};
 
 use crate::cells::Cells;
-use block_columns::{Columns, Fields, RowQueue};
-use span_fields::Break;
 use span_types::{Memory, Place, Row, Span};
 use std::alloc::Global;
 
@@ -45,36 +41,15 @@ fn row(cells: Cells) -> Row
     Row { place, span }
 }
 
-/// The rows of these cells, of which no id is all zeros. Room is taken at once for so many.
-pub fn rows_of_cells<Q: RowQueue<Row = Cells>>(
-    alloc: Global,
-    mut cells: Q,
-    room: usize,
-) -> Result<Vec<Row>, Memory>
-    requires { AllByRecursion IsNamed (Q.rows cells) }
-    ensures { IfOk result (λ rows. rows.items ≡ rows_of (Q.rows cells)) }
+/// The rows of these cells, of which no id is all zeros.
+pub fn rows_of_cells(alloc: Global, cells: Vec<Cells>) -> Result<Vec<Row>, Memory>
+    requires { AllByRecursion IsNamed cells.items }
+    ensures { IfOk result (λ rows. rows.items ≡ rows_of cells.items) }
 {
-    let mut rows = Vec::with_capacity(alloc, room)?;
-    while let Some(one) = cells.take_row() {
+    let mut rows = Vec::with_capacity(alloc, cells.len())?;
+    for one in cells {
         rows.push(row(one))?;
     }
-    Ok(rows)
-}
-
-/// So many rows, of columns that give no id of zeros alone.
-#[tactic(auto, unfolding(block_columns::specs::ColumnReadings::made_at))]
-pub fn read_rows<C: Columns<Item = Cells>>(
-    alloc: Global,
-    fields: &mut Fields,
-    columns: &C,
-    count: u64,
-) -> Result<Vec<Row>, Break>
-    requires { ReadsNamed (C.reading columns.now count) }
-    ensures { Finds (λ x. x.items) result fields.new
-        (made_at rows_of (C.reading columns.now count) fields.old) }
-{
-    let cells = columns.read_all(alloc, fields, count)?;
-    let rows = rows_of_cells(alloc, cells, count as usize)?;
     Ok(rows)
 }
 

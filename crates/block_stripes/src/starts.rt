@@ -2,7 +2,6 @@
 
 ghost use Rattle.std.specs.Prelude.{◌≡◌, ◌≤◌, IfOk, length, map};
 ghost use Rattle.span_fields.specs.Breaks.{Answers};
-ghost use Rattle.block_columns.specs.ColumnReadings.{made_at};
 ghost use Rattle.block_columns.specs.Outcomes.{Finds};
 ghost use Rattle.block_stripes.specs.StripeReadings.{content_part};
 ghost use Rattle.block_stripes.specs.StripeStarts.{content_spot, size_after, size_of, start_cells_at, start_of, starts_of, texts_and_size_at};
@@ -12,7 +11,7 @@ use crate::kinds::{
     WholeTexts,
 };
 use crate::stripe_reading::{front, size};
-use block_columns::{Both, Columns, Fields, Referred, RowQueue, Single, table};
+use block_columns::{Both, Columns, Fields, Referred, Single, table};
 use byte_fields::Reader;
 use indexmap::IndexSet;
 use span_fields::{Break, fixed64};
@@ -37,13 +36,15 @@ pub fn read_size(alloc: Global, bytes: &[u8]) -> Result<u64, Break>
 
 /// When the rows of a stripe start, in nanoseconds since 1970 and in their order. Nothing is read after the column of starts.
 /// Offsets are counted from the stripe's first byte.
-#[tactic(auto, using(crate::proofs::ReadSteps::made_answers), unfolding(crate::specs::StripeStarts::starts_of))]
+#[tactic(auto, unfolding(crate::specs::StripeStarts::starts_of))]
 pub fn read_starts(alloc: Global, bytes: &[u8]) -> Result<Vec<u64>, Break>
     ensures { Answers (λ x. x.items) result (starts_of bytes.now) }
 {
     let mut fields = content(alloc, bytes)?;
     let (texts, size) = texts_and_size(alloc, &mut fields)?;
-    column_starts(alloc, &mut fields, texts.as_slice(), size)
+    let cells = start_cells(alloc, &mut fields, texts.as_slice(), size)?;
+    let starts = starts(alloc, cells.as_slice())?;
+    Ok(starts)
 }
 
 /// The content of a stripe, after its length.
@@ -85,16 +86,15 @@ fn size_after(alloc: Global, fields: &mut Fields, texts: &[Text]) -> Result<u64,
     size(fields)
 }
 
-/// The starts of so many rows, of the columns up to that of starts.
+/// The columns up to that of starts.
 #[tactic(auto, unfolding(crate::specs::StripeStarts::start_cells_at))]
-fn column_starts(
+fn start_cells(
     alloc: Global,
     fields: &mut Fields,
     texts: &[Text],
     count: u64,
-) -> Result<Vec<u64>, Break>
-    ensures { Finds (λ x. x.items) result fields.new
-        (made_at (map start_of) (start_cells_at texts.now count) fields.old) }
+) -> Result<Vec<StartCells>, Break>
+    ensures { Finds (λ x. x.items) result fields.new (start_cells_at texts.now count fields.old) }
 {
     let names = Both {
         left: Single {
@@ -122,43 +122,21 @@ fn column_starts(
             },
         },
     };
-    starts_of_columns(alloc, fields, &columns, count)
+    columns.read_all(alloc, fields, count)
 }
 
-/// When so many rows of these columns start.
-#[tactic(auto, unfolding(block_columns::specs::ColumnReadings::made_at))]
-fn starts_of_columns<C: Columns<Item = StartCells>>(
-    alloc: Global,
-    fields: &mut Fields,
-    columns: &C,
-    count: u64,
-) -> Result<Vec<u64>, Break>
-    ensures { Finds (λ x. x.items) result fields.new
-        (made_at (map start_of) (C.reading columns.now count) fields.old) }
-{
-    let cells = columns.read_all(alloc, fields, count)?;
-    let starts = starts(alloc, cells, count as usize)?;
-    Ok(starts)
-}
-
-/// When the row of these cells starts.
-fn start(cells: StartCells) -> u64
-    ensures { result ≡ start_of cells }
+fn start(cells: &StartCells) -> u64
+    ensures { result ≡ start_of cells.now }
 {
     let (_, (_, (_, (_, (_, (_, (_, start))))))) = cells;
-    start
+    *start
 }
 
-/// When the rows of these cells start. Room is taken at once for so many.
-fn starts<Q: RowQueue<Row = StartCells>>(
-    alloc: Global,
-    mut cells: Q,
-    room: usize,
-) -> Result<Vec<u64>, Memory>
-    ensures { IfOk result (λ starts. starts.items ≡ map start_of (Q.rows cells)) }
+fn starts(alloc: Global, cells: &[StartCells]) -> Result<Vec<u64>, Memory>
+    ensures { IfOk result (λ starts. starts.items ≡ map start_of cells.now) }
 {
-    let mut starts = Vec::with_capacity(alloc, room)?;
-    while let Some(one) = cells.take_row() {
+    let mut starts = Vec::with_capacity(alloc, cells.len())?;
+    for one in cells {
         starts.push(start(one))?;
     }
     Ok(starts)

@@ -7,10 +7,10 @@ ghost use Rattle.block_stripes.specs.StripeReadings.{content_at, content_of, cou
 ghost use Rattle.block_stripes.specs.Stripes.{ReadsFrom, is_extended};
 
 use crate::FormatError;
-use crate::cells::{Listed, Tables, cell_rows};
+use crate::cells::{Listed, Tables, cells};
 use crate::fill::unfilled;
 use crate::kinds::{Resources, Scopes, WholeTexts};
-use crate::rows::ascend;
+use crate::rows::{ascend, rows_of_cells};
 use block_columns::{Fields, table, unused};
 use byte_fields::Reader;
 use indexmap::IndexSet;
@@ -22,7 +22,7 @@ use std::hash::Hash;
 /// The rows of a stripe whose first byte is at `base` in its file, in form 1, or in form 2, which has events and links.
 ///
 /// Bytes that stand for no rows are [`FormatError::NotBlock`] at the first offset where they are malformed, counted from the
-/// file's first byte. No number that they hold takes room for more than 256 values before as many bytes are there.
+/// file's first byte. No number that they hold says how much memory is taken before as many bytes are there.
 pub fn read_stripe(alloc: Global, bytes: &[u8], base: u64, form: u8) -> Result<Rows, FormatError>
     requires { base + length bytes.now < 2 ^ 64 }
     ensures { ReadsFrom base bytes.now result (stripe_at (is_extended form) bytes.now) }
@@ -174,7 +174,7 @@ fn owned_rows(alloc: Global, fields: &mut Fields, tables: &Tables) -> Result<Vec
 }
 
 /// The scopes, and the rows.
-#[tactic(auto, unfolding(crate::specs::StripeReadings::scoped_rows_at, crate::specs::StripeReadings::counted_rows_at))]
+#[tactic(auto, unfolding(crate::specs::StripeReadings::scoped_rows_at, crate::specs::StripeReadings::counted_rows_at, block_columns::specs::ColumnReadings::made_at))]
 fn scoped_rows(
     alloc: Global,
     fields: &mut Fields,
@@ -194,7 +194,9 @@ fn scoped_rows(
         values: values.as_slice(),
     };
     let count = size(fields)?;
-    cell_rows(alloc, fields, tables, resources, scopes, count)
+    let cells = cells(alloc, fields, tables, resources, scopes, count)?;
+    let rows = rows_of_cells(alloc, cells)?;
+    Ok(rows)
 }
 
 /// The values of a table, which can be shared from now on.

@@ -7,7 +7,7 @@ use crate::columns::{OwnerColumns, SpanColumns};
 use crate::marks::{ascend, mark_rows};
 use crate::passes::Within;
 use crate::traces::StripeTraces;
-use block_columns::{Fields, column};
+use block_columns::{Fields, beside, column};
 use block_info::StripeInfo;
 use block_stripes::kinds::TraceIds;
 use block_stripes::{Listed, rows_of_cells};
@@ -62,9 +62,10 @@ impl<'i> Walk for Wanted<'i> {
         };
         let columns = SpanColumns { moments, owners };
         let further = columns.choose(alloc, fields, marked.wanted.as_slice())?;
-        let room = marked.traces.len();
-        let cells = (marked.traces.into_iter(), further);
-        let Ok(rows) = rows_of_cells(alloc, cells, room) else {
+        let Ok(cells) = beside(alloc, marked.traces, further) else {
+            return None;
+        };
+        let Ok(rows) = rows_of_cells(alloc, cells) else {
             return None;
         };
         let last = traces.as_slice().last().copied();

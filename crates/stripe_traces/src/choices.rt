@@ -5,19 +5,15 @@ ghost use Rattle.block_columns.specs.ColumnReadings.{Spot, both_at, column_at, o
 ghost use Rattle.stripe_skims.specs.Sure.{Skims};
 ghost use Rattle.stripe_traces.specs.Chosen.{AreChosen};
 
-use block_columns::{Fields, Kind, Referred, RowQueue};
+use block_columns::{Fields, Kind, Referred, beside};
 use span_types::TryCopy;
 use std::alloc::Global;
-use std::vec::IntoIter;
 use stripe_skims::{Pass, References};
 
 /// Columns of rows, some of which are wanted.
 pub trait Choose: Drop {
     /// What a row has of them.
     type Item: Drop;
-
-    /// What was read of them.
-    type Chosen: RowQueue<Row = Self::Item>;
 
     /// What reading so many rows gives.
     ghost reading: { Self → ℕ → Spot → Result (List Self.Item × Spot) ℕ };
@@ -26,10 +22,10 @@ pub trait Choose: Drop {
     ghost ready: { Self → Type 0 };
 
     /// Goes over as many rows as there are marks, and gives what the marked ones have. None says nothing.
-    fn choose(self, alloc: Global, fields: &mut Fields, wanted: &[bool]) -> Option<Self::Chosen>
+    fn choose(self, alloc: Global, fields: &mut Fields, wanted: &[bool]) -> Option<Vec<Self::Item>>
         requires { ready self }
         ensures { IfSome result (λ seen. Skims (AreChosen wanted.now) (length wanted.now)
-            (reading self (length wanted.now) fields.old) (Self.Chosen.rows seen) fields.new) };
+            (reading self (length wanted.now) fields.old) seen.items fields.new) };
 }
 
 /// One column: how its values are read, and how they are passed over.
@@ -44,21 +40,13 @@ pub struct One<K, P> {
 impl<K: Kind + Drop, P: Pass<Item = K::Item> + Drop> Choose for One<K, P> {
     type Item = K::Item;
 
-    type Chosen = IntoIter<K::Item>;
-
     ghost reading = { λ c n s. column_at (K.reading c.kind) n s };
 
     ghost ready = { λ c. P.ready c.pass × ((s : Spot) → P.reading c.pass s ≡ K.reading c.kind s) };
 
-    fn choose(
-        self,
-        alloc: Global,
-        fields: &mut Fields,
-        wanted: &[bool],
-    ) -> Option<IntoIter<K::Item>> {
+    fn choose(self, alloc: Global, fields: &mut Fields, wanted: &[bool]) -> Option<Vec<K::Item>> {
         let mut pass = self.pass;
-        let values = choose_items(alloc, fields, &self.kind, &mut pass, wanted)?;
-        Some(values.into_iter())
+        choose_items(alloc, fields, &self.kind, &mut pass, wanted)
     }
 }
 
@@ -103,8 +91,6 @@ pub struct BothChoices<L, R> {
 impl<L: Choose, R: Choose> Choose for BothChoices<L, R> {
     type Item = (L::Item, R::Item);
 
-    type Chosen = (L::Chosen, R::Chosen);
-
     ghost reading = { λ c n s. both_at (L.reading c.left) (R.reading c.right) n s };
 
     ghost ready = { λ c. L.ready c.left × R.ready c.right };
@@ -114,10 +100,13 @@ impl<L: Choose, R: Choose> Choose for BothChoices<L, R> {
         alloc: Global,
         fields: &mut Fields,
         wanted: &[bool],
-    ) -> Option<(L::Chosen, R::Chosen)> {
+    ) -> Option<Vec<(L::Item, R::Item)>> {
         let left = self.left.choose(alloc, fields, wanted)?;
         let right = self.right.choose(alloc, fields, wanted)?;
-        Some((left, right))
+        let Ok(rows) = beside(alloc, left, right) else {
+            return None;
+        };
+        Some(rows)
     }
 }
 
@@ -135,13 +124,11 @@ pub struct OwnedChoice<'t, T, K> {
 impl<'t, T: TryCopy, K: Kind + Drop> Choose for OwnedChoice<'t, T, K> {
     type Item = T;
 
-    type Chosen = IntoIter<T>;
-
     ghost reading = { λ o n s. owners_at (K.reading o.kind) o.list o.table.now n s };
 
     ghost ready = { λ _. Unit {0} };
 
-    fn choose(self, alloc: Global, fields: &mut Fields, wanted: &[bool]) -> Option<IntoIter<T>> {
+    fn choose(self, alloc: Global, fields: &mut Fields, wanted: &[bool]) -> Option<Vec<T>> {
         let outer = fields.used();
         fields.count_from(0);
         let kind = Referred { table: self.table };
@@ -151,6 +138,6 @@ impl<'t, T: TryCopy, K: Kind + Drop> Choose for OwnedChoice<'t, T, K> {
             return None;
         }
         fields.count_from(outer);
-        Some(values.into_iter())
+        Some(values)
     }
 }

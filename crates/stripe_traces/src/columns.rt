@@ -16,7 +16,6 @@ use block_stripes::kinds::{
 use span_types as types;
 use span_types::{Attrs, SharedResource, SharedScope, SpanId, SpanKind, StatusCode, Text};
 use std::alloc::Global;
-use std::vec::IntoIter;
 use stripe_skims::{Dropped, Events, Links, References};
 
 /// Attributes, events, links.
@@ -34,33 +33,6 @@ type NameCells = (u64, (u32, (Text, (SpanKind, TimeCells))));
 /// Span, parent, and the cells after them.
 type SpanCells = (SpanId, (Option<SpanId>, NameCells));
 
-/// The cells of rows in columns: attributes, events, links.
-type ListQueues = (
-    IntoIter<Attrs>,
-    (IntoIter<types::Events>, IntoIter<types::Links>),
-);
-
-/// Resources, scopes, and what comes after them.
-type OwnerQueues = (
-    IntoIter<SharedResource>,
-    (IntoIter<SharedScope>, ListQueues),
-);
-
-/// Statuses, messages, and what comes after them.
-type StatusQueues = (IntoIter<StatusCode>, (IntoIter<Text>, OwnerQueues));
-
-/// Starts, ends, and what comes after them.
-type TimeQueues = (IntoIter<u64>, (IntoIter<u64>, StatusQueues));
-
-/// Names, kinds, and what comes after them.
-type WordQueues = (IntoIter<Text>, (IntoIter<SpanKind>, TimeQueues));
-
-/// Pushes, positions, and what comes after them.
-type NameQueues = (IntoIter<u64>, (IntoIter<u32>, WordQueues));
-
-/// Spans, parents, and what comes after them.
-type SpanQueues = (IntoIter<SpanId>, (IntoIter<Option<SpanId>>, NameQueues));
-
 /// The columns of attributes, events and links.
 #[derive(Drop)]
 struct ListColumns<'t> {
@@ -71,13 +43,11 @@ struct ListColumns<'t> {
 impl<'t> Choose for ListColumns<'t> {
     type Item = ListCells;
 
-    type Chosen = ListQueues;
-
     ghost reading = { λ c n s. lists_from c.extended c.texts.now n s };
 
     ghost ready = { λ c. AreApart c.texts.now };
 
-    fn choose(self, alloc: Global, fields: &mut Fields, wanted: &[bool]) -> Option<ListQueues> {
+    fn choose(self, alloc: Global, fields: &mut Fields, wanted: &[bool]) -> Option<Vec<ListCells>> {
         let texts = self.texts;
         let extended = self.extended;
         let attrs = One {
@@ -133,14 +103,17 @@ pub struct OwnerColumns<'t> {
 impl<'t> Choose for OwnerColumns<'t> {
     type Item = OwnerCells;
 
-    type Chosen = OwnerQueues;
-
     ghost reading = { λ c n s. owners_with true c.extended c.texts.now (record { list = c.resources.list; values = c.resources.values.now })
         (record { list = c.scopes.list; values = c.scopes.values.now }) n s };
 
     ghost ready = { λ c. AreApart c.texts.now };
 
-    fn choose(self, alloc: Global, fields: &mut Fields, wanted: &[bool]) -> Option<OwnerQueues> {
+    fn choose(
+        self,
+        alloc: Global,
+        fields: &mut Fields,
+        wanted: &[bool],
+    ) -> Option<Vec<OwnerCells>> {
         let texts = self.texts;
         let resources = OwnedChoice {
             table: self.resources.values,
@@ -177,14 +150,12 @@ struct TimeColumns<'t> {
 impl<'t> Choose for TimeColumns<'t> {
     type Item = TimeCells;
 
-    type Chosen = TimeQueues;
-
     ghost reading = { λ c n s. times_from c.owners.extended c.owners.texts.now (record { list = c.owners.resources.list; values = c.owners.resources.values.now })
         (record { list = c.owners.scopes.list; values = c.owners.scopes.values.now }) n s };
 
     ghost ready = { λ c. AreApart c.owners.texts.now };
 
-    fn choose(self, alloc: Global, fields: &mut Fields, wanted: &[bool]) -> Option<TimeQueues> {
+    fn choose(self, alloc: Global, fields: &mut Fields, wanted: &[bool]) -> Option<Vec<TimeCells>> {
         let texts = self.owners.texts;
         let starts = One {
             kind: Moments,
@@ -230,14 +201,12 @@ struct NameColumns<'t> {
 impl<'t> Choose for NameColumns<'t> {
     type Item = NameCells;
 
-    type Chosen = NameQueues;
-
     ghost reading = { λ c n s. names_from c.owners.extended c.owners.texts.now (record { list = c.owners.resources.list; values = c.owners.resources.values.now })
         (record { list = c.owners.scopes.list; values = c.owners.scopes.values.now }) n s };
 
     ghost ready = { λ c. AreApart c.owners.texts.now };
 
-    fn choose(self, alloc: Global, fields: &mut Fields, wanted: &[bool]) -> Option<NameQueues> {
+    fn choose(self, alloc: Global, fields: &mut Fields, wanted: &[bool]) -> Option<Vec<NameCells>> {
         let texts = self.owners.texts;
         let numbers = One {
             kind: Numbers,
@@ -288,14 +257,12 @@ pub struct SpanColumns<'t> {
 impl<'t> Choose for SpanColumns<'t> {
     type Item = SpanCells;
 
-    type Chosen = SpanQueues;
-
     ghost reading = { λ c n s. spans_from c.owners.extended c.owners.texts.now (record { list = c.owners.resources.list; values = c.owners.resources.values.now })
         (record { list = c.owners.scopes.list; values = c.owners.scopes.values.now }) n s };
 
     ghost ready = { λ c. AreApart c.owners.texts.now };
 
-    fn choose(self, alloc: Global, fields: &mut Fields, wanted: &[bool]) -> Option<SpanQueues> {
+    fn choose(self, alloc: Global, fields: &mut Fields, wanted: &[bool]) -> Option<Vec<SpanCells>> {
         let spans = One {
             kind: SpanIds,
             pass: Dropped { kind: SpanIds },

@@ -4,7 +4,7 @@ use Rattle.block_columns.proofs.columns.column.Goals as goal
 
 pub returns-in_err-value : goal.returns-in_err-value
 returns-in_err-value g c =
-    let p = err_from_is_err_and c.from_residual-in_err-value.result c.from_residual-in_err-value.ensures.1 in
+    let p = err_from_is_err_and c.from_residual.result c.from_residual.ensures.1 in
     rw (p.1, p.2) (items_fail c.in_err-value.field-0.0 (λ _. g.K.Kind.reading c.args.kind.now) c.args.count c.loop.counter c.loop.values.items c.loop.fields _ c.loop-test.true c.in_err-value.ensures c.loop.invariant)
 
 pub loop-preserved : goal.loop-preserved
