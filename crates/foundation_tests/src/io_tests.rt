@@ -68,46 +68,59 @@ fn show(told: &mut Vec<u8>, answer: &Result<Line, LineError>) -> Result<(), Memo
     Ok(())
 }
 
-#[test]
-fn lines_end_at_line_feeds_and_lose_one_return(rt: HostRuntime) -> Result<(), Memory> {
-    let cases = [
-        ("", "."),
-        ("a", "a|."),
-        ("a\n", "a|."),
-        ("a\n\n", "a||."),
-        ("\n", "|."),
-        ("\n\na", "||a|."),
-        ("\r", "|."),
-        ("\r\n", "|."),
-        ("\r\r", "\r|."),
-        ("a\r\r\n", "a\r|."),
-        ("a\rb\n", "a\rb|."),
-        ("one\r\ntwo\nthree\r", "one|two|three|."),
-        ("one\n\rtwo\r\n\r\n", "one|\rtwo||."),
-    ];
-    for (text, want) in cases {
-        for step in [1usize, 3, 65_536] {
-            let told = answers(rt.alloc(), text.as_bytes(), step, &[])?;
-            assert_eq!(rt; told.as_slice(), want.as_bytes());
-        }
+// Texts, and what a reader answers.
+static LINES: [(&str, &str); 13] = [
+    ("", "."),
+    ("a", "a|."),
+    ("a\n", "a|."),
+    ("a\n\n", "a||."),
+    ("\n", "|."),
+    ("\n\na", "||a|."),
+    ("\r", "|."),
+    ("\r\n", "|."),
+    ("\r\r", "\r|."),
+    ("a\r\r\n", "a\r|."),
+    ("a\rb\n", "a\rb|."),
+    ("one\r\ntwo\nthree\r", "one|two|three|."),
+    ("one\n\rtwo\r\n\r\n", "one|\rtwo||."),
+];
+
+// Whether a reader answers so, a source that gives at most so many bytes a call.
+fn is_answered(alloc: Global, text: &str, step: usize, failing: &[u64], want: &str) -> bool
+    requires { 0 < step }
+{
+    match answers(alloc, text.as_bytes(), step, failing) {
+        Ok(told) => told.as_slice() == want.as_bytes(),
+        Err(_) => false,
     }
-    Ok(())
 }
 
 #[test]
-fn a_fault_leaves_the_line_that_was_begun(rt: HostRuntime) -> Result<(), Memory> {
-    let cases = [
-        ([1, 1], "!ab|c|."),
-        ([2, 2], "!ab|c|."),
-        ([2, 3], "!!ab|c|."),
-        ([4, 4], "ab|!c|."),
-        ([6, 1], "!ab|!c|."),
-    ];
-    for (failing, want) in cases {
-        let told = answers(rt.alloc(), b"ab\nc", 1, &failing)?;
-        assert_eq!(rt; told.as_slice(), want.as_bytes());
+fn lines_end_at_line_feeds_and_lose_one_return(rt: HostRuntime) {
+    for (text, want) in &LINES {
+        assert!(rt; is_answered(rt.alloc(), text, 1, &[], want), "{text}");
+        assert!(rt; is_answered(rt.alloc(), text, 3, &[], want), "{text}");
+        assert!(rt; is_answered(rt.alloc(), text, 65_536, &[], want), "{text}");
     }
-    Ok(())
+}
+
+// Calls that fail, and what a reader then answers.
+static FAULTS: [(&[u64], &str); 5] = [
+    (&[1, 1], "!ab|c|."),
+    (&[2, 2], "!ab|c|."),
+    (&[2, 3], "!!ab|c|."),
+    (&[4, 4], "ab|!c|."),
+    (&[6, 1], "!ab|!c|."),
+];
+
+#[test]
+fn a_fault_leaves_the_line_that_was_begun(rt: HostRuntime) {
+    for (failing, want) in &FAULTS {
+        assert!(rt;
+            is_answered(rt.alloc(), "ab\nc", 1, failing, want),
+            "{want}"
+        );
+    }
 }
 
 // A line of as many bytes as a line may have, with a return that isn't part of it, one of a byte more, and a short one.
@@ -139,29 +152,33 @@ fn a_line_over_the_limit_is_counted(rt: HostRuntime) -> Result<(), Memory> {
     Ok(())
 }
 
-#[test]
-fn devices_in_memory_fail_where_they_are_told(rt: HostRuntime) -> Result<(), Memory> {
-    let mut sink = MemSink::new(rt.alloc(), Calls::of(vec![in rt.alloc(); 2u64, 4]?));
-    for (bytes, fails) in [
-        (b"a", false),
-        (b"b", true),
-        (b"c", false),
-        (b"d", true),
-        (b"e", false),
-    ] {
-        assert_eq!(rt; sink.put(bytes).is_err(), fails);
-    }
-    assert_eq!(rt; sink.taken(), b"ace".as_slice());
-    assert_eq!(rt; sink.starved(), 0);
-    Ok(())
-}
+// Bytes that are written, and whether that fails.
+static PUTS: [(&[u8], bool); 5] = [
+    (b"a", false),
+    (b"b", true),
+    (b"c", false),
+    (b"d", true),
+    (b"e", false),
+];
 
 #[test]
-fn a_fixed_clock_stays_at_its_last_moment(rt: HostRuntime) -> Result<(), Memory> {
-    let mut clock = FixedClock::new(Moments::of(vec![in rt.alloc(); 5u64, 7]?));
-    for want in [5, 7, 7] {
-        assert_eq!(rt; clock.now(), want);
+fn devices_in_memory_fail_where_they_are_told(rt: HostRuntime) {
+    let calls = vec![in rt.alloc(); 2u64, 4].expect(&rt, "memory");
+    let mut sink = MemSink::new(rt.alloc(), Calls::of(calls));
+    for (bytes, fails) in &PUTS {
+        assert!(rt; sink.put(bytes).is_err() == *fails);
+    }
+    assert!(rt; sink.taken() == b"ace".as_slice() && sink.starved() == 0);
+}
+
+static MOMENTS: [u64; 3] = [5, 7, 7];
+
+#[test]
+fn a_fixed_clock_stays_at_its_last_moment(rt: HostRuntime) {
+    let moments = vec![in rt.alloc(); 5u64, 7].expect(&rt, "memory");
+    let mut clock = FixedClock::new(Moments::of(moments));
+    for want in &MOMENTS {
+        assert!(rt; clock.now() == *want);
     }
     OpenGate.pass(3);
-    Ok(())
 }

@@ -9,16 +9,22 @@ use traceql_types::{
     patterns_in_order, refusals_are_counted,
 };
 
-fn refusal(out: &mut String, error: TypeError) -> Result<(), AllocError> {
+/// A refusal and its place.
+fn refusal_at(error: TypeError) -> (&'static str, u64) {
     match error {
-        TypeError::KindClash { at } => write!(out, "kind-clash {at}"),
-        TypeError::NotTruth { at } => write!(out, "not-truth {at}"),
-        TypeError::DivisionInAggregate { at } => write!(out, "division {at}"),
-        TypeError::NotNumber { at } => write!(out, "not-number {at}"),
-        TypeError::BadPattern { at } => write!(out, "bad-pattern {at}"),
-        TypeError::PatternTooBig { at } => write!(out, "too-big {at}"),
-        TypeError::Memory => out.push_str("memory"),
+        TypeError::KindClash { at } => ("kind-clash", at),
+        TypeError::NotTruth { at } => ("not-truth", at),
+        TypeError::DivisionInAggregate { at } => ("division", at),
+        TypeError::NotNumber { at } => ("not-number", at),
+        TypeError::BadPattern { at } => ("bad-pattern", at),
+        TypeError::PatternTooBig { at } => ("too-big", at),
+        TypeError::Memory => ("memory", 0),
     }
+}
+
+fn refusal(out: &mut String, error: TypeError) -> Result<(), AllocError> {
+    let (word, at) = refusal_at(error);
+    write!(out, "{word} {at}")
 }
 
 fn fine(out: &mut String, patterns: &Patterns) -> Result<(), AllocError> {

@@ -3,7 +3,8 @@
 use std::alloc::{AllocError, Global};
 use std::process::Abort;
 use traceql_tokens::{
-    TimeUnit, Token, TokenKind, Tokens, metrics_tokens, one_reading, printed_tokens, tokens,
+    Class, Fault, TimeUnit, Token, TokenKind, Tokens, metrics_tokens, one_reading, printed_tokens,
+    tokens,
 };
 
 /// Texts and their tokens.
@@ -128,18 +129,38 @@ static METRICS: [(&str, &str); 7] = [
     ("count_over", "0:count 5:unknown"),
 ];
 
+/// Adds a number and its unit.
+fn add_number(told: &mut String, number: u64, unit: &str) -> Result<(), AllocError> {
+    write!(told, "{number}{unit}")
+}
+
+/// Adds a text and what stands before and after it.
+fn add_text(told: &mut String, front: &str, text: &str, back: &str) -> Result<(), AllocError> {
+    write!(told, "{front}{text}{back}")
+}
+
+/// Adds a name and its scope.
+fn add_name(told: &mut String, scope: &str, name: &str) -> Result<(), AllocError> {
+    write!(told, "{scope}[{name}]")
+}
+
+/// Adds why a token is broken.
+fn add_fault(told: &mut String, class: Class, fault: Fault) -> Result<(), AllocError> {
+    write!(told, "{class:?}/{fault:?}")
+}
+
 /// Adds a token as one word of the table: its place, and its class with its text or value.
 fn add(told: &mut String, token: &Token) -> Result<(), AllocError> {
-    write!(told, "{}:", token.at)?;
+    add_number(told, token.at, ":")?;
     match &token.kind {
         TokenKind::Mark(sign) => told.push_str(sign.text()),
         TokenKind::Keyword(word) => told.push_str(word.text()),
         TokenKind::Builtin(intrinsic) => told.push_str(intrinsic.text()),
-        TokenKind::Named(scope, name) => write!(told, "{}[{}]", scope.text(), name.as_str()),
-        TokenKind::Quoted(value) => write!(told, "'{}'", value.as_str()),
-        TokenKind::Number(number) => write!(told, "{number}"),
-        TokenKind::Duration(nanos) => write!(told, "{nanos}ns"),
-        TokenKind::Broken(class, fault) => write!(told, "{class:?}/{fault:?}"),
+        TokenKind::Named(scope, name) => add_name(told, scope.text(), name.as_str()),
+        TokenKind::Quoted(value) => add_text(told, "'", value.as_str(), "'"),
+        TokenKind::Number(number) => add_number(told, *number, ""),
+        TokenKind::Duration(nanos) => add_number(told, *nanos, "ns"),
+        TokenKind::Broken(class, fault) => add_fault(told, *class, *fault),
         TokenKind::Nameless => told.push_str("nameless"),
         TokenKind::Unknown => told.push_str("unknown"),
     }

@@ -1,8 +1,8 @@
-//! Tests of searches: values, relations among spans, what queries select and leave, and the text of results.
+//! Tests of searches: values, what queries select and leave, and the text of results.
 //!
 //! They say what no clause says: rows that were worked out by hand, and each public call once.
 //!
-//! - Values: `values`, `ratios`, `chains` (long ones on a small stack). Relations: `relations`.
+//! - Values: `values`, `chains` (long ones on a small stack).
 //! - Whole searches: `searches`, `one_span`, and `texts` for the text of results.
 //! - What they share: `lines` (rows and queries of texts) and `told` (results as texts of tables).
 #![tactic(auto)]
@@ -13,10 +13,6 @@ mod chains;
 mod lines;
 #[cfg(test)]
 mod one_span;
-#[cfg(test)]
-mod ratios;
-#[cfg(test)]
-mod relations;
 #[cfg(test)]
 mod searches;
 #[cfg(test)]

@@ -38,6 +38,24 @@ const SELECTED: &str = r#"{ name =~ "a|q|o" } > { name =~ "c|p|n|s" } => s p
 ({ name = "a" } || { name = "q" }) > { } => b s p
 { name = "a" } > { } > { } => c"#;
 
+/// One trace: `r` is its own parent, and that of `c`; `u` and `v` have no parent.
+const OWN: &str =
+    r#"{"resourceSpans":[{"scopeSpans":[{"spans":[{"traceId":"000000000000000000000000000000d1","spanId":"0000000000000001","parentSpanId":"0000000000000001","name":"r","startTimeUnixNano":"1","endTimeUnixNano":"2"},{"traceId":"000000000000000000000000000000d1","spanId":"0000000000000002","parentSpanId":"0000000000000001","name":"c","startTimeUnixNano":"1","endTimeUnixNano":"2"},{"traceId":"000000000000000000000000000000d1","spanId":"0000000000000003","parentSpanId":"","name":"u","startTimeUnixNano":"1","endTimeUnixNano":"2"},{"traceId":"000000000000000000000000000000d1","spanId":"0000000000000004","parentSpanId":"","name":"v","startTimeUnixNano":"1","endTimeUnixNano":"2"}]}]}]}"#;
+
+/// What relations select of it.
+const OF_OWN: &str = r#"{ name = "r" } > { } => r c
+{ name = "r" } >> { } => r c
+{ name = "r" } < { } => r
+{ name = "r" } << { } => r
+{ name = "r" } ~ { } => c
+{ name = "c" } > { } => none
+{ name = "c" } < { } => r
+{ name = "c" } ~ { } => r
+{ name = "u" } > { } => none
+{ name = "u" } << { } => none
+{ name = "u" } ~ { } => none
+{ name =~ "r|c" } ~ { } => r c"#;
+
 /// One trace of four spans without parents. Of `e` and `f`, `v` is 1 and 2 and `w` is `x`; of `g`, `v` is the text `2`
 /// and `w` is `y`; `h`, which has no `v`, starts later and has failed, and its `w` is `y`. Each takes 3 nanoseconds.
 const SHOP: &str =
@@ -164,7 +182,7 @@ fn traces_are_ranked_before_they_are_cut(rt: HostRuntime) {
 }
 
 /// Traces, and what searches over all of one's spans show.
-static TABLES: [(&str, &str); 2] = [(KIN, SELECTED), (SHOP, STAGED)];
+static TABLES: [(&str, &str); 3] = [(KIN, SELECTED), (OWN, OF_OWN), (SHOP, STAGED)];
 
 /// Compares what a row's search shows with what the row says.
 fn check_row(rt: &(impl Abort + AllocGlobal), line: &str, row: &str) {

@@ -3,20 +3,23 @@
 use spanset_eval::{Results, SetResult, TraceResult};
 use std::alloc::{AllocError, Global};
 use traceql_print::{kind_word, status_word};
-use traceql_value::{Value, Values};
+use traceql_value::{Ratio, Value, Values};
+
+/// Adds a fraction, or a whole number.
+fn add_number(told: &mut String, number: Ratio) -> Result<(), AllocError> {
+    write!(told, "{}", number.numerator())?;
+    if number.denominator() == 1 {
+        return Ok(());
+    }
+    write!(told, "/{}", number.denominator())
+}
 
 /// Adds a value.
 pub fn add_value(told: &mut String, value: &Value) -> Result<(), AllocError> {
     match value {
         Value::Nil => told.push_str("nil"),
-        Value::Truth(truth) => write!(told, "{truth}"),
-        Value::Number(number) => {
-            if number.denominator() == 1 {
-                write!(told, "{}", number.numerator())
-            } else {
-                write!(told, "{}/{}", number.numerator(), number.denominator())
-            }
-        }
+        Value::Truth(truth) => told.push_str(if *truth { "true" } else { "false" }),
+        Value::Number(number) => add_number(told, *number),
         Value::Text(text) => write!(told, "\"{}\"", text.as_str()),
         Value::Status(status) => told.push_str(status_word(*status).text()),
         Value::Kind(kind) => told.push_str(kind_word(*kind).text()),

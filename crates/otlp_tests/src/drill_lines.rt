@@ -2,9 +2,6 @@
 //! its seeding from their published algorithms, and the layout of the JSON from the pages.
 
 use drill_input::make_line;
-use span_types::Memory;
-use std::alloc::Global;
-use std::test::Fail;
 
 /// Seed 6 and index 0: two spans.
 const TWO_SPANS: &str =
@@ -18,23 +15,17 @@ const OF_SUM_ZERO: &str =
 const OF_LAST_INDEX: &str =
     r#"{"resourceSpans":[{"resource":{"attributes":[{"key":"service.name","value":{"stringValue":"svc-1"}}]},"scopeSpans":[{"scope":{"attributes":[],"name":"","version":""},"spans":[{"attributes":[{"key":"http.status_code","value":{"intValue":"400"}}],"endTimeUnixNano":"1704294967295284767","kind":1,"name":"op-4","parentSpanId":"","spanId":"0000000000000001","startTimeUnixNano":"1704294967295000000","status":{"code":1,"message":""},"traceId":"4fb3d455ea963b15373c755689f67985"},{"attributes":[{"key":"http.status_code","value":{"intValue":"400"}}],"endTimeUnixNano":"1704294967295786507","kind":4,"name":"op-0","parentSpanId":"0000000000000001","spanId":"0000000000000002","startTimeUnixNano":"1704294967295001000","status":{"code":2,"message":""},"traceId":"4fb3d455ea963b15373c755689f67985"},{"attributes":[{"key":"http.status_code","value":{"intValue":"300"}}],"endTimeUnixNano":"1704294967295634835","kind":3,"name":"op-3","parentSpanId":"0000000000000002","spanId":"0000000000000003","startTimeUnixNano":"1704294967295002000","status":{"code":1,"message":""},"traceId":"4fb3d455ea963b15373c755689f67985"},{"attributes":[{"key":"http.status_code","value":{"intValue":"400"}}],"endTimeUnixNano":"1704294967295643727","kind":5,"name":"op-4","parentSpanId":"0000000000000001","spanId":"0000000000000004","startTimeUnixNano":"1704294967295003000","status":{"code":2,"message":""},"traceId":"4fb3d455ea963b15373c755689f67985"}]}]}]}"#;
 
-/// Whether this is the line of the seed and the index.
-fn is_line(alloc: Global, seed: u64, index: u32, line: &str) -> Result<bool, Memory> {
-    let made = make_line(alloc, seed, index)?;
-    Ok(made.as_str() == line)
-}
+/// Seeds and indices, and their lines.
+static LINES: [(u64, u32, &str); 3] = [
+    (6, 0, TWO_SPANS),
+    (u64::MAX, 1, OF_SUM_ZERO),
+    (18_446_744_073_709_551_609, u32::MAX, OF_LAST_INDEX),
+];
 
 #[test]
-fn lines_have_the_bytes_of_a_second_program(rt: HostRuntime) -> Result<(), Fail> {
-    let alloc = rt.alloc();
-    assert!(rt; is_line(alloc, 6, 0, TWO_SPANS)?, "two spans");
-    assert!(rt;
-        is_line(alloc, u64::MAX, 1, OF_SUM_ZERO)?,
-        "the sum wraps to 0"
-    );
-    assert!(rt;
-        is_line(alloc, 18446744073709551609, u32::MAX, OF_LAST_INDEX)?,
-        "the last index"
-    );
-    Ok(())
+fn lines_have_the_bytes_of_a_second_program(rt: HostRuntime) {
+    for (seed, index, line) in &LINES {
+        let made = make_line(rt.alloc(), *seed, *index).expect(&rt, "memory");
+        assert!(&rt; made.as_str() == *line, "{seed} {index}");
+    }
 }
