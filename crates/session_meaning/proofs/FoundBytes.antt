@@ -1,7 +1,7 @@
 -- What a crash might have left before a line it might still have left after the last one, whatever the bytes are. So each opening that is
 -- refused for its bytes is refused for some that it might have left; and as long as the store stays closed for them, the disk holds them.
 use Rattle.std.specs.Prelude.{⊤, IfSome}
-use Rattle.std.proofs.Common.{arith, ◌≡◌, ℕ, ◌≤◌, List, [], ◌∷◌, Option, None, Some, Result, Ok, Err, IsTrue, refl, sym, subst}
+use Rattle.std.proofs.Common.{◌≡◌, ℕ, ◌≤◌, List, [], ◌∷◌, Option, None, Some, Result, Ok, Err, IsTrue, refl, sym, subst}
 use Rattle.block_list.specs.Loading.{KeepsList}
 use Rattle.block_list.proofs.LoadLemmas.{keeps_trans}
 use Rattle.disk_model.specs.Calls.{Passes}
