@@ -37,3 +37,4 @@ mod DrillLaws
 pub mod IngestParts
 pub mod Following
 mod ServedLaws
+mod ServedPushes

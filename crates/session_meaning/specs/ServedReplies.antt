@@ -1,16 +1,20 @@
 -- Words for the replies to several clients.
-use Rattle.std.specs.Prelude.{◌≡◌, ◌⊎◌, ⊤, ℕ, ◌≤◌, max, List, [], ◌∷◌, Ok, Err}
+use Rattle.std.specs.Prelude.{◌≡◌, ◌⊎◌, ⊤, ℕ, ◌+◌, ◌<◌, ◌≤◌, max, List, [], ◌∷◌, Ok, Err, length}
+use Rattle.std.specs.List.{Contains}
 use Rattle.client_run.specs.Answers.{asked_of, counted_of}
+use Rattle.client_scripts.specs.Numbers.{AreNumbered}
 use Rattle.client_scripts.specs.Told.{told_length}
 use Rattle.client_scripts.specs.declared.script.Answered.{Answered}
+use Rattle.port_history.specs.Entries.{Entry, added_by, own}
 use Rattle.session_text.specs.declared.reply.Reply.{Reply}
 use Rattle.session_text.specs.declared.reply.Reply.TheVariants.{Measured, Searched, Traced}
 use Rattle.session_text.specs.declared.request.Request.{Request}
 use Rattle.session_text.specs.declared.request.Request.TheVariants as request
 use Rattle.session_text.specs.Items.{Item}
 use Rattle.spanset_eval.specs.declared.results.TraceResult.{TraceResult}
-use Rattle.store_model.specs.History.{History, count_of, up_to}
+use Rattle.store_model.specs.History.{History, count_of, grown, up_to}
 use Rattle.traceql_metrics.specs.Series.{AreSeries}
+use Rattle.session_meaning.specs.Pushes.{accepted_entries}
 use Rattle.session_meaning.specs.Session.{IsFound, IsTraceIn}
 
 -- Among the replies to these items this one is the reply to this item.
@@ -54,3 +58,19 @@ AllTellFronts h least [] answers = ⊤
 AllTellFronts h least (script ∷ scripts) [] = ⊤
 AllTellFronts h least (script ∷ scripts) (answered ∷ answers) =
     TellFronts h least script answered.replies.items × AllTellFronts h least scripts answers
+
+-- The clients from this number on: what the calls of each added to a history is just its pushes that were accepted, as what it asked and
+-- was told has them, in that order.
+abbrev pub AreAdded : ℕ → List (List Item) → List Answered → List Entry → Type 0
+AreAdded client [] answers entries = answers ≡ []
+AreAdded client (script ∷ scripts) [] entries = ⊥
+AreAdded client (script ∷ scripts) (answered ∷ answers) entries =
+    (added_by (own (client ∷ []) entries) ≡ accepted_entries script answered.replies.items) × AreAdded (client + 1) scripts answers entries
+
+-- The last history is the first one and then what these calls added, in their one order. Each of them is one client's, and what those of a
+-- client added is just its accepted pushes, in its order. Each accepted push is told its number in that order.
+pub record HasTheirPushes (first last : History) (scripts : List (List Item)) (answers : List Answered) (entries : List Entry) : Type 0 where
+  pub grows : last ≡ grown first (added_by entries)
+  pub whose : (e : Entry) → Contains entries e → e.seat < length scripts
+  pub theirs : AreAdded 0 scripts answers entries
+  pub numbered : AreNumbered (count_of first) entries answers

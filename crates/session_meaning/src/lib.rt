@@ -23,6 +23,6 @@ pub use laws::{
     what_is_stored_is_a_base,
 };
 pub use serving_laws::{
-    numbers_are_given_once, one_script_is_a_session, pushes_of_clients_have_their_causes,
+    clients_make_the_history, numbers_are_given_once, one_script_is_a_session, pushes_of_clients_have_their_causes,
     serving_comes_to_an_end, what_was_seen_counts,
 };

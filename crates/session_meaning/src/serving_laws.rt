@@ -19,7 +19,7 @@ ghost use Rattle.session_meaning.specs.At.{At, history_of};
 ghost use Rattle.session_meaning.specs.Causes.{HasPushCause};
 ghost use Rattle.session_meaning.specs.Pushes.{HasRoomForPush};
 ghost use Rattle.session_meaning.specs.Runs.{ComesToItsEnd, Edges, ReadsWell};
-ghost use Rattle.session_meaning.specs.ServedReplies.{AllTellFronts, AskNothing, WasReplied};
+ghost use Rattle.session_meaning.specs.ServedReplies.{AllTellFronts, AskNothing, HasTheirPushes, WasReplied};
 ghost use Rattle.session_meaning.specs.ServedRuns.{IsServedRun, Served};
 ghost use Rattle.session_meaning.specs.Serving.{Ran};
 ghost use Rattle.session_meaning.specs.Session.{Session};
@@ -31,6 +31,15 @@ pub fn numbers_are_given_once()
         (answers : List Answered) (entries : List Entry)
         → Ran told first scripts answers entries last
         → AreInARow (count_of (history_of first)) (given_numbers (map call_of entries)) }
+{}
+
+/// The last history is the first one and then the accepted pushes of all clients, each client's in its order and no
+/// others. Each accepted push is told its number there.
+pub fn clients_make_the_history()
+    ensures { (told : Bool) (first last : At) (scripts : List (List Item))
+        (answers : List Answered) (entries : List Entry)
+        → Ran told first scripts answers entries last
+        → HasTheirPushes (history_of first) (history_of last) scripts answers entries }
 {}
 
 /// Which pushes of clients are refused by the store, and which are accepted: `calls` are the first of all calls, and lead
