@@ -126,11 +126,18 @@ outline s = record {
   last = last_place s;
 }
 
--- A run that served so many clients with so many rounds of upkeep, between the edges as they were and as they are. `told` says that what
--- the blocks of the store hold is told.
+-- Nothing was asked of the store, and no call of it was made.
+pub record IsUnasked (s : Served) : Type 0 where
+  pub no_scripts : s.scripts ≡ []
+  pub no_answers : s.answers ≡ []
+  pub no_entries : s.entries ≡ []
+
+-- A run that served so many clients with so many rounds of upkeep, between the edges as they were and as they are. Nothing was asked where
+-- it ends by the source, whether that tells its bytes or not. `told` says that what the blocks of the store hold is told.
 pub record IsServedRun (told : Bool) (clients rounds : ℕ) (s : Served) (old new : Edges) : Type 0 where
   pub opened : HasOpened (outline s) old new
   pub asked : Asks clients rounds old.left new.left s.ending s.scripts s.refused (after_moment old.moments) new.moments
+  pub unasked : NeedsNoSource s.ending ⊎ IsUnasked s
   pub ran : Ran told s.first s.scripts s.answers s.entries s.last
   pub ends : EndsServing s.ending s.answers old.taken new.taken
   pub cause : HasCause s.ending old new

@@ -171,6 +171,7 @@ module _ {D : Type 0} (g : Ghosts D) (disk : D) (moment clients rounds : ℕ) (c
       last_faults = last_faults;
     };
     asked = came.asked;
+    unasked = ⊎_elim (λ source. inl source) (λ none. inr (record { no_scripts = none.0; no_answers = none.1; no_entries = none.2 })) came.unasked;
     ran = ran;
     ends = came.ends;
     cause = cause;

@@ -164,6 +164,7 @@ came_unasked g clients rounds core later old_left left old_taken taken told to_t
   entries = [];
   served = none_served (port_of g) core later same;
   asked = if_some old_left (λ text. AsksAll clients rounds text e [] blamed told to_tell ⊎ AsksNone clients rounds text left e [] blamed told to_tell) (λ text is. inr (asks text is));
+  unasked = inr (refl, refl, refl);
   ends = ends;
 }
 
@@ -197,6 +198,7 @@ module _ {D : Type 0} (g : Ghosts D) (clients rounds : ℕ) (core : Core D) (old
       served = did;
       asked = if_some old_left (λ text. AsksAll clients rounds text e all blamed told to_tell ⊎ AsksNone clients rounds text left e all blamed told to_tell)
           (λ text source. inl (asks_all clients rounds told text left between to_tell scripts blamed (dealt text source) e all cuts are_cuts is clock no_source));
+      unasked = inl no_source;
       ends = ends;
     }
 
