@@ -74,21 +74,22 @@ pub record IsServed (ended : Ending) (answers : List Answered) (old new : Option
   pub written : Appends old new (served_text 0 answers)
   pub ends : end_of (all_replies answers) ≡ ended
 
--- Memory was wanted: nothing was written, where it was before the end of some script; or else the replies before the first for whose text
--- there was none.
-pub record WritesFirst (answers : List Answered) (old new : Option (List ℕ)) : Type 0 where
-  pub first : List (List ℕ)
-  pub later : List (List ℕ)
-  pub texts_are : served_texts 0 answers ≡ first ++ later
-  pub written : Appends old new (concat first)
-  pub nothing : any_starved answers ≡ true → new ≡ old
+-- Memory was wanted, and not all replies were written.
+pub data StopsForMemory (answers : List Answered) (old new : Option (List ℕ)) : Type 0 where
+  -- before anything was asked
+  unasked : answers ≡ [] → new ≡ old → StopsForMemory answers old new
+  -- before the end of some script
+  starved : any_starved answers ≡ true → new ≡ old → StopsForMemory answers old new
+  -- for the text of a reply: those before it were written, and neither it nor a later one
+  cut_off : any_starved answers ≡ false → (first : List (List ℕ)) (text : List ℕ) (later : List (List ℕ)) → served_texts 0 answers ≡ first ++ text ∷ later
+      → Appends old new (concat first) → StopsForMemory answers old new
 
--- What stands written at each ending: all replies; the first of them, where memory was wanted; a first part of their text, where the sink
--- failed; nothing, where the source's end came before any request was answered.
+-- What stands written at each ending: all replies; the first of them and not all, or none, where memory was wanted; a first part of their
+-- text, where the sink failed; nothing, where the source's end came before any request was answered.
 abbrev pub EndsServing : Ending → List Answered → Option (List ℕ) → Option (List ℕ) → Type 0
 EndsServing answered answers old new = IsServed answered answers old new
 EndsServing Refused answers old new = IsServed Refused answers old new
-EndsServing Starved answers old new = IsServed Starved answers old new ⊎ WritesFirst answers old new
+EndsServing Starved answers old new = IsServed Starved answers old new ⊎ StopsForMemory answers old new
 EndsServing WriteFault answers old new = (any_starved answers ≡ false) × AppendsPrefix old new (served_text 0 answers)
 EndsServing ReadFault answers old new = new ≡ old
 EndsServing Spent answers old new = new ≡ old
