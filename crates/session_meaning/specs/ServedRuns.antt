@@ -33,11 +33,13 @@ pub record AsksAll (clients rounds : ℕ) (text : List ℕ) (ended : Ending) (sc
 
 -- How a run ends that asks nothing of the store, where these lines of `text` weren't read, and the source has that left: the source
 -- failed, or as many bytes were taken as a run takes, and every line was read that was ended in what was taken; or memory was wanted.
--- `clock` is what the clock had to give after the lines that were read.
+-- `clock` is what the clock had to give after the lines that were read. It is asked on only where these are all lines, and then once for
+-- each of the requests that keep the store up: memory was wanted after that.
 abbrev pub EndsUnasked : Ending → ℕ → List ℕ → List (List ℕ) → Option (List ℕ) → (clock to_tell : Option (List ℕ)) → Type 0
 EndsUnasked ReadFault rounds text later left clock to_tell = IsAllEnded text later left × (to_tell ≡ clock)
 EndsUnasked Spent rounds text later left clock to_tell = IsAllEnded text later left × (taken_limit ≤ length text) × (to_tell ≡ clock)
-EndsUnasked Starved rounds text later left clock to_tell = (to_tell ≡ clock) ⊎ (to_tell ≡ after_moments (4 * rounds) clock)
+EndsUnasked Starved rounds text later left clock to_tell =
+    (to_tell ≡ clock) ⊎ ((later ≡ []) × (length text < taken_limit) × (to_tell ≡ after_moments (4 * rounds) clock))
 EndsUnasked _ rounds text later left clock to_tell = ⊥
 
 -- Lines of `text` were read and dealt, some or all, and nothing was asked.

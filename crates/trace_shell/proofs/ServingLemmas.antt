@@ -122,7 +122,7 @@ module _ (clients rounds : ℕ) (told : Option (List ℕ)) (text : List ℕ) whe
       where
         at : (to_tell ≡ between) ⊎ (to_tell ≡ after_moments (4 * rounds) between) → EndsUnasked Starved rounds text [] left (after_lines (lines text) told) to_tell
         at (inl same) = inl (same ∙ h.clock)
-        at (inr later) = inr (later ∙ ap (after_moments (4 * rounds)) h.clock)
+        at (inr later) = inr (refl, h.short, later ∙ ap (after_moments (4 * rounds)) h.clock)
 
     -- All was asked.
     pub asks_all : (e : Ending) (all : List (List Item)) (cuts : List Item) → AreCuts rounds between cuts → all ≡ scripts ++ cuts ∷ compactions rounds ∷ []
