@@ -6,7 +6,7 @@ use Rattle.client_scripts.specs.Served.{AreServed}
 use Rattle.client_scripts.specs.declared.script.Answered.{Answered}
 use Rattle.client_run.specs.Answers.{AreSeriesTold, IsSearchTold, asked_of, compact_reply, counted_of, cut_reply, flush_reply, pushed_reply, reclaimed_reply, trace_reply}
 use Rattle.otlp_spans.specs.declared.read.Reading.{Reading}
-use Rattle.port_history.specs.Entries.{Entry, Legal, added_by, and_added, call_of, own}
+use Rattle.port_history.specs.Entries.{Entry, added_by, and_added, call_of, own}
 use Rattle.port_history.proofs.Chains.{from_is_grown, legal_history}
 use Rattle.query_fanout.specs.SearchAnswers.{IsSearchAnswer}
 use Rattle.query_fanout.specs.TraceAnswers.{IsTraceAnswer}
@@ -36,6 +36,7 @@ use Rattle.session_meaning.specs.Serving.{Ran}
 use Rattle.session_meaning.proofs.Pushless.{AllPushNothing, compaction_pushes_nothing, flush_pushes_nothing, query_pushes_nothing}
 use Rattle.session_meaning.proofs.RoundLaws.{PushesNothing, asks_none}
 use Rattle.session_meaning.proofs.ServedLaws.{numbers_given_once}
+use Rattle.session_meaning.proofs.ServedPlaces.{led_legally}
 
 -- ---- what calls add, and which numbers they give
 
@@ -177,7 +178,7 @@ pub their_pushes : (told : Bool) (first last : At) (scripts : List (List Item)) 
     → HasTheirPushes (history_of first) (history_of last) scripts answers entries
 their_pushes told first last scripts answers entries ran =
     let theirs = all_theirs 0 scripts answers entries ran.served in record {
-      grows = legal_history first.faults last.faults first.machine last.machine entries ran.legal ∙ from_is_grown (history_of first) entries;
+      grows = legal_history first.faults last.faults first.machine last.machine entries (led_legally told first last entries ran.lead) ∙ from_is_grown (history_of first) entries;
       whose = ran.whose;
       theirs = theirs.0;
       numbered = record { in_a_row = numbers_given_once told first last scripts answers entries ran; theirs = theirs.1 };
