@@ -41,3 +41,4 @@ mod ServedLaws
 mod ServedPushes
 mod ServedCounts
 mod ServedCauses
+mod ServedRoom

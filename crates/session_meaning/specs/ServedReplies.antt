@@ -1,5 +1,5 @@
 -- Words for the replies to several clients.
-use Rattle.std.specs.Prelude.{◌≡◌, ⊤, ℕ, zero, suc, ◌+◌, ◌<◌, ◌≤◌, max, Bool, true, List, [], ◌∷◌, ◌++◌, map, Some, Ok, Err, length}
+use Rattle.std.specs.Prelude.{◌≡◌, ⊤, ℕ, zero, suc, ◌+◌, ◌<◌, ◌≤◌, max, Bool, true, false, List, [], ◌∷◌, ◌++◌, map, Some, Ok, Err, length}
 use Rattle.std.specs.List.{Contains}
 use Rattle.client_run.specs.Answers.{asked_of, counted_of}
 use Rattle.client_scripts.specs.Numbers.{AreNumbered}
@@ -23,9 +23,9 @@ use Rattle.store_state.specs.Made.{Call}
 use Rattle.traceql_metrics.specs.Series.{AreSeries}
 use Rattle.session_meaning.specs.Answering.{AreItemsAnswered}
 use Rattle.session_meaning.specs.At.{At}
-use Rattle.session_meaning.specs.Pushes.{accepted_entries}
+use Rattle.session_meaning.specs.Pushes.{HasRoomNow, accepted_entries}
 use Rattle.session_meaning.specs.Serving.{EntriesLead, IsMade}
-use Rattle.session_meaning.specs.Session.{IsFound, IsTraceIn}
+use Rattle.session_meaning.specs.Session.{IsFound, IsTraceIn, is_refusal, is_refused}
 
 -- Among the replies to these items this one is the reply to this item, and the items before it were these, with these replies.
 abbrev pub IsReplyTo : List Item → List Reply → (asked : List Item) → (got : List Reply) → Item → Reply → Type 0
@@ -77,6 +77,16 @@ pub record ListsBlock (told : Bool) (m : Machine) (count : ℕ) (m' : Machine) :
   pub of_blocks : IsFirstOf (block_rows (in_files (job_files job m.state) m.state.blocks)) rows
   pub counted : told ≡ true → count ≡ length rows
   pub leaves : m' ≡ with_state (after_commit_compact job count rows m.state) m
+
+-- What is asked has its part of what keeps a run from being refused: it is in order; a push has room just before its call; and a flush or a
+-- compaction isn't refused, as for a job of another client that is open.
+abbrev pub HasItsPart : Bool → At → List Entry → At → (client : ℕ) → (asked : List Item) → (got : List Reply) → Item → Reply → Type 0
+HasItsPart told first entries last client asked got (Ok (request.Push reading moment)) reply =
+    (place : CallPlace told first entries last client asked got []) → HasRoomNow (Ok (request.Push reading moment)) place.before.machine
+HasItsPart told first entries last client asked got (Ok request.Flush) reply = is_refusal reply ≡ false
+HasItsPart told first entries last client asked got (Ok request.Compact) reply = is_refusal reply ≡ false
+HasItsPart told first entries last client asked got (Ok request) reply = ⊤
+HasItsPart told first entries last client asked got (Err why) reply = is_refused (Err why) ≡ false
 
 -- They ask nothing.
 abbrev pub AskNothing : List (List Item) → Type 0

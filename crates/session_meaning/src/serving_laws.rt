@@ -2,17 +2,19 @@
 //!
 //! Each function has an empty body: its contract is the statement, and its proof stands in `proofs/serving_laws/`.
 
-ghost use Rattle.std.specs.Prelude.{Bool, ◌≡◌, [], ◌∷◌, ◌++◌, List, Ok, true, false, length, map, ℕ};
+ghost use Rattle.std.specs.Prelude.{Bool, ◌≡◌, ◌⊎◌, [], ◌∷◌, ◌++◌, List, None, Ok, true, false, length, map, ℕ};
 ghost use Rattle.client_scripts.specs.declared.script.Answered.{Answered};
 ghost use Rattle.client_scripts.specs.Numbers.{AreInARow, given_numbers};
 ghost use Rattle.compactor.specs.Rounds.{IsCompactRound};
 ghost use Rattle.otlp_spans.specs.declared.read.Reading.{Reading};
 ghost use Rattle.port_history.specs.Entries.{Entry, Legal, call_of};
+ghost use Rattle.session_meaning.specs.declared.ending.Ending.TheVariants.{Answered as answered, Starved};
 ghost use Rattle.session_text.specs.declared.refusal.Refusal.{Refusal};
 ghost use Rattle.session_text.specs.declared.reply.Reply.{Reply};
 ghost use Rattle.session_text.specs.declared.reply.Reply.TheVariants.{Compacted, Pushed, Refused};
 ghost use Rattle.session_text.specs.declared.request.Request.TheVariants.{Compact, Push};
 ghost use Rattle.session_text.specs.Items.{Item};
+ghost use Rattle.span_types.specs.Faults.{Rose};
 ghost use Rattle.store_model.specs.History.{count_of};
 ghost use Rattle.store_model.specs.Laws.{Agrees};
 ghost use Rattle.store_state.specs.Made.{Call};
@@ -20,12 +22,12 @@ ghost use Rattle.store_state.specs.declared.rounds.Round.TheVariants.{Did};
 ghost use Rattle.session_meaning.specs.Answering.{CallsLead, IsItemAnswered};
 ghost use Rattle.session_meaning.specs.At.{At, history_of};
 ghost use Rattle.session_meaning.specs.Causes.{HasPushCause};
-ghost use Rattle.session_meaning.specs.Pushes.{HasRoomForPush};
+ghost use Rattle.session_meaning.specs.Pushes.{HasRoomForPush, HasRoomNow, NeedsNoWrite};
 ghost use Rattle.session_meaning.specs.Runs.{ComesToItsEnd, Edges, ReadsWell};
-ghost use Rattle.session_meaning.specs.ServedReplies.{AllTellFronts, AskNothing, CallPlace, HasTheirPushes, ListsBlock, TakesOneCall, WasReplied};
+ghost use Rattle.session_meaning.specs.ServedReplies.{AllTellFronts, AskNothing, CallPlace, HasItsPart, HasTheirPushes, ListsBlock, TakesOneCall, WasReplied};
 ghost use Rattle.session_meaning.specs.ServedRuns.{IsServedRun, Served};
 ghost use Rattle.session_meaning.specs.Serving.{Ran};
-ghost use Rattle.session_meaning.specs.Session.{IsAnswered, Session};
+ghost use Rattle.session_meaning.specs.Session.{IsAnswered, Session, is_refusal, is_refused};
 
 /// The calls of all clients are legal steps of the store, and lead from the first store to the last.
 pub fn calls_of_clients_are_steps()
@@ -126,6 +128,37 @@ pub fn one_script_is_a_session()
         → Ran told first (script ∷ others) (answered ∷ answers) entries last
         → AskNothing others → Agrees first.machine → answered.starved ≡ false
         → Session false first script answered.replies.items last }
+{}
+
+/// What is asked among several clients is refused for no cause but memory, or its own words, if no call of the disk fails
+/// and there is room for it. Of a flush and a compaction that isn't said: each is refused while a job of its kind is open,
+/// which may be another client's.
+pub fn what_has_room_is_done_among_clients()
+    // A push for which there is room just before its call, a cut, and the emptying of loose files, if the store wrote at
+    // first.
+    ensures one_call { (told : Bool) (first last : At) (scripts : List (List Item))
+        (answers : List Answered) (entries : List Entry) (client : ℕ) (asked : List Item)
+        (got : List Reply) (item : Item) (reply : Reply)
+        → Ran told first scripts answers entries last
+        → WasReplied scripts answers client asked got item reply → TakesOneCall item
+        → first.machine.read_only ≡ None → (Rose first.faults last.faults → ⊥)
+        → (place : CallPlace told first entries last client asked got [])
+        × IsItemAnswered item reply (call_of place.entry ∷ [])
+        × (HasRoomNow item place.before.machine → is_refusal reply ≡ is_refused item) }
+    // A query and a cut, in any store, where what the blocks hold is told.
+    ensures no_write { (first last : At) (scripts : List (List Item)) (answers : List Answered)
+        (entries : List Entry) (client : ℕ) (asked : List Item) (got : List Reply) (item : Item)
+        (reply : Reply) → Ran true first scripts answers entries last
+        → WasReplied scripts answers client asked got item reply → NeedsNoWrite item
+        → (Rose first.faults last.faults → ⊥) → is_refusal reply ≡ is_refused item }
+    // So a run over a store that shows its bytes, in which no call failed, ends with nothing refused but for memory, if
+    // all lines were in order, each push had room and no flush and no compaction was refused.
+    ensures well { (clients rounds : ℕ) (s : Served) (old new : Edges)
+        → IsServedRun true clients rounds s old new → ReadsWell old new
+        → ((client : ℕ) (asked : List Item) (got : List Reply) (item : Item) (reply : Reply)
+        → WasReplied s.scripts s.answers client asked got item reply
+        → HasItsPart true s.first s.entries s.last client asked got item reply)
+        → (s.ending ≡ answered) ⊎ (s.ending ≡ Starved) }
 {}
 
 /// A run that serves clients in which no call failed comes to its own end.
