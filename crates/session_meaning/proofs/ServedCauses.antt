@@ -1,5 +1,5 @@
 -- What is answered by one call of the store, where others' calls come before it and after it.
-use Rattle.std.proofs.Common.{◌≡◌, ◌∙◌, inl, inr, ℕ, Bool, List, [], ◌∷◌, Result, Ok, Err, ap, length, refl, sym, subst}
+use Rattle.std.proofs.Common.{◌≡◌, ◌∙◌, ℕ, Bool, List, [], ◌∷◌, Ok, Err, ap, length, sym, subst}
 use Rattle.client_scripts.specs.declared.script.Answered.{Answered}
 use Rattle.otlp_spans.specs.declared.read.Reading.{Reading}
 use Rattle.port_history.specs.Entries.{Entry, call_of}

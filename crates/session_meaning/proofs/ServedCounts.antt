@@ -1,5 +1,5 @@
 -- What the compaction of a client counted, where others' calls came in between.
-use Rattle.std.proofs.Common.{◌≡◌, ◌∙◌, ℕ, ◌+◌, Bool, true, List, [], ◌∷◌, ◌++◌, Option, Some, None, Ok, ap, length, refl, sym, subst, take, drop}
+use Rattle.std.proofs.Common.{◌≡◌, ◌∙◌, ℕ, ◌+◌, Bool, true, List, [], ◌∷◌, ◌++◌, Option, Some, None, Ok, ap, refl, sym, subst, take, drop}
 use Rattle.std.specs.Prelude.{⊤}
 use Rattle.client_run.specs.Answers.{compact_reply}
 use Rattle.client_scripts.specs.declared.script.Answered.{Answered}

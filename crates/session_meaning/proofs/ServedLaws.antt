@@ -1,18 +1,16 @@
 -- What follows of several clients that were answered at once.
-use Rattle.std.proofs.Common.{◌≡◌, ◌⊎◌, inl, inr, ◌∙◌, ℕ, zero, suc, ◌+◌, ◌<◌, ◌≤◌, ◌==◌, Bool, true, false, max, nat_lt, List, [], ◌∷◌, ◌++◌, map, take, length, Option, None, Result, Ok, Err, ap, arith, refl, sym, subst, if◌then◌else◌}
+use Rattle.std.proofs.Common.{◌≡◌, inl, inr, ◌∙◌, ℕ, zero, suc, ◌+◌, ◌<◌, ◌≤◌, ◌==◌, Bool, true, false, max, nat_lt, List, [], ◌∷◌, ◌++◌, map, take, length, Option, None, Result, Ok, Err, ap, arith, refl, sym, subst, if◌then◌else◌}
 use Rattle.std.specs.List.{Contains}
 use Rattle.std.proofs.lemmas.List.{take_all}
 use Rattle.std.proofs.Math.Seq.{take-nil}
-use Rattle.client_run.specs.CoreRuns.{IsCounted, is_fault}
 use Rattle.client_scripts.specs.Numbers.{AreInARow, given_by, given_numbers}
 use Rattle.client_scripts.specs.Scripts as by_script
 use Rattle.client_scripts.specs.Served.{AllTold, AreServed}
 use Rattle.client_scripts.specs.Told.{AreTold, IsToldOf, TellsFrom, told_length}
 use Rattle.client_scripts.specs.declared.script.Answered.{Answered}
-use Rattle.client_run.specs.Answers.{IsMetricsTold, IsSearchTold, asked_of, counted_of, pushed_reply, trace_reply}
+use Rattle.client_run.specs.Answers.{IsMetricsTold, IsSearchTold, asked_of, counted_of, trace_reply}
 use Rattle.io_edges.specs.Lines.{taken_limit}
 use Rattle.io_edges.specs.Reader.{TakesBytes}
-use Rattle.otlp_spans.specs.declared.read.Reading.{Reading}
 use Rattle.port_history.specs.Entries.{Entry, Legal, call_of, own}
 use Rattle.query_fanout.specs.Queries.{Sound}
 use Rattle.query_fanout.specs.SearchAnswers.{IsSearchAnswer}
@@ -21,9 +19,8 @@ use Rattle.query_fanout.specs.declared.error.QueryError.{QueryError}
 use Rattle.query_fanout.specs.declared.searching.Asked.{Asked}
 use Rattle.query_fanout.specs.declared.searching.SearchAnswer.{SearchAnswer}
 use Rattle.query_fanout.specs.declared.trace.TraceAnswer.{TraceAnswer}
-use Rattle.session_text.specs.declared.refusal.Refusal.{Refusal}
 use Rattle.session_text.specs.declared.reply.Reply.{Reply}
-use Rattle.session_text.specs.declared.reply.Reply.TheVariants.{Pushed, Refused}
+use Rattle.session_text.specs.declared.reply.Reply.TheVariants.{Refused}
 use Rattle.session_text.specs.declared.request.Metrics.{Metrics}
 use Rattle.session_text.specs.declared.request.Request.{Request}
 use Rattle.session_text.specs.declared.request.Request.TheVariants as request
@@ -35,25 +32,21 @@ use Rattle.store_model.specs.Event.{Event as event, Reply as told}
 use Rattle.store_model.specs.History.{History, count_of, push_of, up_to, with_entry}
 use Rattle.store_model.specs.Laws.{Agrees}
 use Rattle.store_model.specs.State.{is_among}
-use Rattle.store_model.specs.Step.{Machine, Step}
+use Rattle.store_model.specs.Step.{Machine}
 use Rattle.store_model.specs.Told.{TellsLength, added_entry, asked_entry, history_after}
 use Rattle.store_model.proofs.Numbers.{equal_itself, same_number}
 use Rattle.store_model.proofs.TellsHistory.{step_tells}
 use Rattle.client_scripts.proofs.ToldLemmas.{grown_count}
-use Rattle.store_state.specs.Made.{Call, call}
-use Rattle.store_state.specs.Replies.{push_reply}
-use Rattle.store_state.specs.declared.errors.PushError.{PushError}
+use Rattle.store_state.specs.Made.{Call}
 use Rattle.session_meaning.specs.declared.ending.Ending.{Ending}
 use Rattle.session_meaning.specs.declared.ending.Ending.TheVariants as ending
-use Rattle.session_meaning.specs.Answering.{AreItemsAnswered, CallsLead}
+use Rattle.session_meaning.specs.Answering.{AreItemsAnswered}
 use Rattle.session_meaning.specs.At.{At, history_of}
-use Rattle.session_meaning.specs.Causes.{HasPushCause}
-use Rattle.session_meaning.specs.Pushes.{HasRoomForPush}
 use Rattle.session_meaning.specs.Runs.{ComesToItsEnd, Edges, HasCause, ReadsWell}
-use Rattle.session_meaning.specs.ServedReplies.{AllTellFronts, AskNothing, IsReplyTo, TellFronts, TellsFrontFrom, WasReplied}
+use Rattle.session_meaning.specs.ServedReplies.{AllTellFronts, AskNothing, TellFronts, TellsFrontFrom}
 use Rattle.session_meaning.specs.ServedRuns.{EndsServing, IsServedRun, Served}
 use Rattle.session_meaning.specs.Serving.{Ran}
-use Rattle.session_meaning.specs.Session.{IsAnswered, IsFound, IsTraceIn, Session}
+use Rattle.session_meaning.specs.Session.{IsFound, IsTraceIn, Session}
 use Rattle.session_meaning.proofs.AnswerLaws.{session_means}
 use Rattle.session_meaning.proofs.EndLaws.{by_ending, taken_within}
 use Rattle.session_meaning.proofs.ServedPlaces.{as_answered, led_by_steps, led_legally}

@@ -1,6 +1,5 @@
 -- Where calls of one client stand among those of all clients.
-use Rattle.std.proofs.Common.{◌≡◌, inl, inr, ◌∙◌, ℕ, zero, suc, ◌+◌, ◌≤◌, ◌==◌, ◌||◌, Bool, true, false, List, [], ◌∷◌, ◌++◌, map, take, length, Ok, Err, ap, append_assoc, arith, eqb-true, refl, sym, subst, if◌then◌else◌}
-use Rattle.client_run.specs.CoreRuns.{AreSteps, IsCounted, is_fault}
+use Rattle.std.proofs.Common.{◌≡◌, ◌∙◌, ℕ, zero, suc, ◌+◌, ◌≤◌, ◌==◌, ◌||◌, Bool, true, false, List, [], ◌∷◌, ◌++◌, map, take, length, Ok, Err, ap, append_assoc, arith, eqb-true, refl, sym, subst}
 use Rattle.client_scripts.specs.Scripts as by_script
 use Rattle.client_scripts.specs.Served.{AreServed}
 use Rattle.client_scripts.specs.declared.script.Answered.{Answered}
@@ -8,7 +7,7 @@ use Rattle.port_history.specs.Entries.{Entry, Legal, call_of, own}
 use Rattle.session_text.specs.declared.reply.Reply.{Reply}
 use Rattle.session_text.specs.Items.{Item}
 use Rattle.store_model.specs.State.{is_among}
-use Rattle.store_model.specs.Step.{Machine, Step}
+use Rattle.store_model.specs.Step.{Step}
 use Rattle.store_state.specs.Made.{Call}
 use Rattle.session_meaning.specs.Answering.{AreItemsAnswered, CallsLead, IsItemAnswered}
 use Rattle.session_meaning.specs.At.{At}

@@ -1,5 +1,5 @@
 -- Which pushes the last history has, where several clients were answered at once.
-use Rattle.std.proofs.Common.{◌≡◌, inl, inr, ◌∙◌, ℕ, ◌+◌, Bool, true, false, List, [], ◌∷◌, ◌++◌, map, take, length, Option, None, Some, Result, Ok, Err, ap, append_assoc, refl, sym, subst, if◌then◌else◌}
+use Rattle.std.proofs.Common.{◌≡◌, inl, inr, ◌∙◌, ℕ, ◌+◌, Bool, List, [], ◌∷◌, ◌++◌, map, take, length, Option, None, Some, Result, Ok, Err, ap, append_assoc, refl, sym, subst}
 use Rattle.client_scripts.specs.Numbers.{AreTheirs, given_by, given_numbers, told_by_reply, told_numbers}
 use Rattle.client_scripts.specs.Scripts as by_script
 use Rattle.client_scripts.specs.Served.{AreServed}
@@ -21,8 +21,7 @@ use Rattle.session_text.specs.Items.{Item}
 use Rattle.span_types.specs.declared.errors.Memory.{Memory}
 use Rattle.store_entries.specs.declared.entry.Entry.{Entry as Added}
 use Rattle.store_model.specs.Event.{Event as event, Reply as reply}
-use Rattle.store_model.specs.History.{count_of, grown}
-use Rattle.store_model.specs.Told.{added_entry, asked_entry}
+use Rattle.store_model.specs.Told.{added_entry}
 use Rattle.store_state.specs.Made.{Call, call}
 use Rattle.store_state.specs.Replies.{push_reply}
 use Rattle.store_state.specs.declared.errors.PushError.{PushError}
