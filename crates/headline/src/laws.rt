@@ -29,7 +29,7 @@ ghost use Rattle.session_meaning.specs.Kept.{Kept, begun_with, kept_after_all, k
 ghost use Rattle.session_meaning.specs.Progress.{AreAnsweredOver};
 ghost use Rattle.session_meaning.specs.Pushes.{accepted_entries, accepted_entry, known_pushes};
 ghost use Rattle.session_meaning.specs.Runs.{Edges, IsRunOf, Outcome, TellsAll, text_written};
-ghost use Rattle.session_meaning.specs.ServedReplies.{AllTellFronts};
+ghost use Rattle.session_meaning.specs.ServedReplies.{AllTellFronts, HasTheirPushes};
 ghost use Rattle.session_meaning.specs.ServedRuns.{RecoversServed, Served, ServesAs, last_place};
 ghost use Rattle.session_meaning.specs.Session.{Session};
 ghost use Rattle.session_meaning.specs.Stops.{Recovers};
@@ -38,7 +38,7 @@ ghost use Rattle.headline.specs.Requests.{HasHistory, KeepsFrom};
 ghost use Rattle.headline.specs.Stopped.{AreToldReadOnly, StopsWriting};
 
 use disk_model::Device;
-use session_meaning::{pushes_have_their_causes, what_was_seen_counts};
+use session_meaning::{clients_make_the_history, pushes_have_their_causes, what_was_seen_counts};
 use store_core::Core;
 
 /// The headline. Every answer of a run is TraceQL's meaning over the first occurrences of the spans in one front of
@@ -66,18 +66,24 @@ pub fn the_headline<D: Device>(disk: &D, later: &D)
 
 /// The headline of several clients that were answered at once. Each answer is TraceQL's meaning over one front of the
 /// last history. The front reaches over all that was stored at first, over the number of each push that its client had
-/// seen acknowledged, and over all that its client's earlier answers told of. Whatever a crash leaves of the disk
+/// seen acknowledged, and over all that its client's earlier answers told of. That history is what was stored at first
+/// and then the accepted pushes of all clients, each client's in its order. Whatever a crash leaves of the disk
 /// afterwards stands for that history to its end, and it may be for one push more that was answered `disk-fault`.
 pub fn the_headline_of_clients<D: Device>(disk: &D, later: &D)
     ensures answers { (words : List (List ℕ)) (s : Served) (old new : Edges)
         → ServesAs true words s old new
         → AllTellFronts (history_of s.last) (count_of (history_of s.first)) s.scripts s.answers }
+    // Whatever disk it is: which pushes the last history has, and which numbers they are told.
+    ensures pushes { (told : Bool) (words : List (List ℕ)) (s : Served) (old new : Edges)
+        → ServesAs told words s old new
+        → HasTheirPushes (history_of s.first) (history_of s.last) s.scripts s.answers s.entries }
     ensures stored { (s : Served) → RecoversServed D.Device.own disk.now later.now s
         → ImageStandsFor (D.held disk.now) (history_of s.first)
         × ((image : Image) → D.may_leave later.now image
         → MayStandFor (history_of s.last) (last_place s).unsure image) }
 {
     what_was_seen_counts();
+    clients_make_the_history();
 }
 
 /// Whatever history the disk's bytes stood for, the run goes on from it: it matters to no reply and to no later image

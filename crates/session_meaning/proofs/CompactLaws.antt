@@ -59,7 +59,7 @@ same_did a b c d e = (cc, cc)
 some_job : (a b : Compaction) → Some a ≡ Some b → a ≡ b
 some_job a b e = cc
 
-counted_last : (front : List Block) (last : Block) → AreCounted (front ++ last ∷ []) → last.size ≡ length last.rows
+pub counted_last : (front : List Block) (last : Block) → AreCounted (front ++ last ∷ []) → last.size ≡ length last.rows
 counted_last [] last are = are.0
 counted_last (block ∷ front) last are = counted_last front last are.1
 

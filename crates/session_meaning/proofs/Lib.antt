@@ -22,7 +22,7 @@ mod ReadOnly
 mod FaultLaws
 pub mod Acts
 mod FaultRuns
-mod Counted
+pub mod Counted
 mod Places
 pub mod OnDisk
 pub mod CoreSessions
@@ -36,4 +36,9 @@ mod IngestRounds
 mod DrillLaws
 pub mod IngestParts
 pub mod Following
+pub mod ServedPlaces
 mod ServedLaws
+mod ServedPushes
+mod ServedCounts
+mod ServedCauses
+mod ServedRoom

@@ -40,7 +40,7 @@ record IsIdle (m : Machine) : Type 0 where
   writes : m.read_only ≡ None
   closed : HasNoJob m
 
-push_plain : (reading : Reading) (moment : ℕ) (answer : Result ℕ PushError) (m m' : Machine) → Taken reading.batch.spans moment m (push_reply answer) m' → IsPlain (pushed_reply reading answer)
+pub push_plain : (reading : Reading) (moment : ℕ) (answer : Result ℕ PushError) (m m' : Machine) → Taken reading.batch.spans moment m (push_reply answer) m' → IsPlain (pushed_reply reading answer)
 push_plain reading moment answer m m' (kept told history writes rows files closed) = count_plain reading answer (count_of m.history) told
 push_plain reading moment answer m m' (starved told same) = starved_plain reading answer told
 

@@ -32,7 +32,7 @@ kept_on : (start : ℕ) (before after : At) → before.faults ≤ after.faults �
 kept_on start before after later same (inl none) = inl (same ∙ none)
 kept_on start before after later same (inr (n, is, rose, within)) = inr (n, same ∙ is, rose, two n before.faults after.faults within later)
 
-by_step : (start : ℕ) (before after : At) (e : event) (r : reply) → IsStep before e r after → Since start before → Since start after
+pub by_step : (start : ℕ) (before after : At) (e : event) (r : reply) → IsStep before e r after → Since start before → Since start after
 by_step start before after e r step (earlier, since) =
     (two start before.faults after.faults earlier step.0, go (step_fails before.faults after.faults before.machine after.machine e r step.1))
   where

@@ -1,18 +1,16 @@
 -- What follows of several clients that were answered at once.
-use Rattle.std.proofs.Common.{◌≡◌, ◌⊎◌, inl, inr, ◌∙◌, ℕ, zero, suc, ◌+◌, ◌<◌, ◌≤◌, ◌==◌, Bool, true, false, max, nat_lt, List, [], ◌∷◌, ◌++◌, map, take, length, Option, None, Result, Ok, Err, ap, arith, refl, sym, subst, if◌then◌else◌}
+use Rattle.std.proofs.Common.{◌≡◌, inl, inr, ◌∙◌, ℕ, zero, suc, ◌+◌, ◌<◌, ◌≤◌, ◌==◌, Bool, true, false, max, nat_lt, List, [], ◌∷◌, ◌++◌, map, take, length, Option, None, Result, Ok, Err, ap, arith, refl, sym, subst, if◌then◌else◌}
 use Rattle.std.specs.List.{Contains}
 use Rattle.std.proofs.lemmas.List.{take_all}
 use Rattle.std.proofs.Math.Seq.{take-nil}
-use Rattle.client_run.specs.CoreRuns.{IsCounted, is_fault}
 use Rattle.client_scripts.specs.Numbers.{AreInARow, given_by, given_numbers}
 use Rattle.client_scripts.specs.Scripts as by_script
 use Rattle.client_scripts.specs.Served.{AllTold, AreServed}
 use Rattle.client_scripts.specs.Told.{AreTold, IsToldOf, TellsFrom, told_length}
 use Rattle.client_scripts.specs.declared.script.Answered.{Answered}
-use Rattle.client_run.specs.Answers.{IsMetricsTold, IsSearchTold, asked_of, counted_of, pushed_reply, trace_reply}
+use Rattle.client_run.specs.Answers.{IsMetricsTold, IsSearchTold, asked_of, counted_of, trace_reply}
 use Rattle.io_edges.specs.Lines.{taken_limit}
 use Rattle.io_edges.specs.Reader.{TakesBytes}
-use Rattle.otlp_spans.specs.declared.read.Reading.{Reading}
 use Rattle.port_history.specs.Entries.{Entry, Legal, call_of, own}
 use Rattle.query_fanout.specs.Queries.{Sound}
 use Rattle.query_fanout.specs.SearchAnswers.{IsSearchAnswer}
@@ -21,9 +19,8 @@ use Rattle.query_fanout.specs.declared.error.QueryError.{QueryError}
 use Rattle.query_fanout.specs.declared.searching.Asked.{Asked}
 use Rattle.query_fanout.specs.declared.searching.SearchAnswer.{SearchAnswer}
 use Rattle.query_fanout.specs.declared.trace.TraceAnswer.{TraceAnswer}
-use Rattle.session_text.specs.declared.refusal.Refusal.{Refusal}
 use Rattle.session_text.specs.declared.reply.Reply.{Reply}
-use Rattle.session_text.specs.declared.reply.Reply.TheVariants.{Pushed, Refused}
+use Rattle.session_text.specs.declared.reply.Reply.TheVariants.{Refused}
 use Rattle.session_text.specs.declared.request.Metrics.{Metrics}
 use Rattle.session_text.specs.declared.request.Request.{Request}
 use Rattle.session_text.specs.declared.request.Request.TheVariants as request
@@ -35,29 +32,24 @@ use Rattle.store_model.specs.Event.{Event as event, Reply as told}
 use Rattle.store_model.specs.History.{History, count_of, push_of, up_to, with_entry}
 use Rattle.store_model.specs.Laws.{Agrees}
 use Rattle.store_model.specs.State.{is_among}
-use Rattle.store_model.specs.Step.{Machine, Step}
+use Rattle.store_model.specs.Step.{Machine}
 use Rattle.store_model.specs.Told.{TellsLength, added_entry, asked_entry, history_after}
 use Rattle.store_model.proofs.Numbers.{equal_itself, same_number}
 use Rattle.store_model.proofs.TellsHistory.{step_tells}
 use Rattle.client_scripts.proofs.ToldLemmas.{grown_count}
-use Rattle.store_state.specs.Made.{Call, call}
-use Rattle.store_state.specs.Replies.{push_reply}
-use Rattle.store_state.specs.declared.errors.PushError.{PushError}
+use Rattle.store_state.specs.Made.{Call}
 use Rattle.session_meaning.specs.declared.ending.Ending.{Ending}
 use Rattle.session_meaning.specs.declared.ending.Ending.TheVariants as ending
-use Rattle.session_meaning.specs.Answering.{AreItemsAnswered, CallsLead}
+use Rattle.session_meaning.specs.Answering.{AreItemsAnswered}
 use Rattle.session_meaning.specs.At.{At, history_of}
-use Rattle.session_meaning.specs.Causes.{HasPushCause}
-use Rattle.session_meaning.specs.Pushes.{HasRoomForPush}
 use Rattle.session_meaning.specs.Runs.{ComesToItsEnd, Edges, HasCause, ReadsWell}
-use Rattle.session_meaning.specs.ServedReplies.{AllTellFronts, AskNothing, IsReplyTo, TellFronts, TellsFrontFrom, WasReplied}
+use Rattle.session_meaning.specs.ServedReplies.{AllTellFronts, AskNothing, TellFronts, TellsFrontFrom}
 use Rattle.session_meaning.specs.ServedRuns.{EndsServing, IsServedRun, Served}
 use Rattle.session_meaning.specs.Serving.{Ran}
-use Rattle.session_meaning.specs.Session.{IsAnswered, IsFound, IsTraceIn, Session}
+use Rattle.session_meaning.specs.Session.{IsFound, IsTraceIn, Session}
 use Rattle.session_meaning.proofs.AnswerLaws.{session_means}
 use Rattle.session_meaning.proofs.EndLaws.{by_ending, taken_within}
-use Rattle.session_meaning.proofs.PushCauses.{accepted_with_room, refused_for}
-use Rattle.session_meaning.proofs.Steps.{counted_later}
+use Rattle.session_meaning.proofs.ServedPlaces.{as_answered, led_by_steps, led_legally}
 
 -- ---- numbers
 
@@ -109,144 +101,7 @@ in_a_row before after m m' (e ∷ es) legal =
 
 pub numbers_given_once : (told : Bool) (first last : At) (scripts : List (List Item)) (answers : List Answered) (entries : List Entry) → Ran told first scripts answers entries last
     → AreInARow (count_of (history_of first)) (given_numbers (map call_of entries))
-numbers_given_once told first last scripts answers entries ran = in_a_row first.faults last.faults first.machine last.machine entries ran.legal
-
--- ---- one of many calls
-
-abbrev Has : {X : Type 0} → List X → X → Type 0
-Has [] x = ⊥
-Has (y ∷ ys) x = (y ≡ x) ⊎ Has ys x
-
-has_front : {X : Type 0} (xs ys : List X) (x : X) → Has xs x → Has (xs ++ ys) x
-has_front [] ys x h = absurd h
-has_front (z ∷ zs) ys x (inl is) = inl is
-has_front (z ∷ zs) ys x (inr more) = inr (has_front zs ys x more)
-
-has_back : {X : Type 0} (xs ys : List X) (x : X) → Has ys x → Has (xs ++ ys) x
-has_back [] ys x h = h
-has_back (z ∷ zs) ys x h = inr (has_back zs ys x h)
-
--- those of one client are among all
-own_has : (names : List ℕ) (es : List Entry) (c : Call) → Has (map call_of (own names es)) c → Has (map call_of es) c
-own_has names [] c h = h
-own_has names (e ∷ es) c h = by_test (is_among e.seat names) (λ k. own_has names es c k) h
-  where
-    by_test : (t : Bool) → (Has (map call_of (own names es)) c → Has (map call_of es) c) → Has (map call_of (if t then e ∷ own names es else own names es)) c
-        → Has (map call_of (e ∷ es)) c
-    by_test true rest (inl is) = inl is
-    by_test true rest (inr more) = inr (rest more)
-    by_test false rest h = inr (rest h)
-
--- A push of a client was one of the calls.
-record PushedSo (reading : Reading) (moment : ℕ) (reply : Reply) (calls : List Call) : Type 0 where
-  answer : Result ℕ PushError
-  is : reply ≡ pushed_reply reading answer
-  among : Has calls (call (event.Push reading.batch.spans moment) (push_reply answer))
-
-in_script : (reading : Reading) (moment : ℕ) (reply : Reply) (items : List Item) (replies : List Reply) (calls : List Call)
-    → by_script.AreItemsAnswered (take (length replies) items) replies calls → IsReplyTo items replies (Ok (request.Push reading moment)) reply → PushedSo reading moment reply calls
-in_script reading moment reply [] replies calls are this = absurd this
-in_script reading moment reply (i ∷ items) [] calls are this = absurd this
-in_script reading moment reply (i ∷ items) (r ∷ replies) calls (now, later, is, one, rest) (inl (same, told)) =
-    let got = subst (λ (x : Reply). by_script.IsItemAnswered (Ok (request.Push reading moment)) x now) told (subst (λ (x : Item). by_script.IsItemAnswered x r now) same one) in
-    let its : Call = call (event.Push reading.batch.spans moment) (push_reply got.0) in record {
-      answer = got.0;
-      is = got.1;
-      among = subst (λ (cs : List Call). Has cs its) (sym is) (has_front now later its (subst (λ (cs : List Call). Has cs its) (sym got.2) (inl refl)));
-    }
-in_script reading moment reply (i ∷ items) (r ∷ replies) calls (now, later, is, one, rest) (inr more) =
-    let found = in_script reading moment reply items replies later rest more in
-    let its : Call = call (event.Push reading.batch.spans moment) (push_reply found.answer) in
-    record { answer = found.answer; is = found.is; among = subst (λ (cs : List Call). Has cs its) (sym is) (has_back now later its found.among) }
-
-pushed_so : (reading : Reading) (moment : ℕ) (reply : Reply) (client : ℕ) (scripts : List (List Item)) (answers : List Answered) (entries : List Entry) → AreServed client scripts answers entries
-    → WasReplied scripts answers (Ok (request.Push reading moment)) reply → PushedSo reading moment reply (map call_of entries)
-pushed_so reading moment reply client [] answers entries served this = absurd this
-pushed_so reading moment reply client (script ∷ scripts) [] entries served this = absurd this
-pushed_so reading moment reply client (script ∷ scripts) (answered ∷ answers) entries (one, rest) (inl here) =
-    let found = in_script reading moment reply script answered.replies.items (map call_of (own (client ∷ []) entries)) one.first here in
-    record { answer = found.answer; is = found.is; among = own_has (client ∷ []) entries (call (event.Push reading.batch.spans moment) (push_reply found.answer)) found.among }
-pushed_so reading moment reply client (script ∷ scripts) (answered ∷ answers) entries (one, rest) (inr more) = pushed_so reading moment reply (client + 1) scripts answers entries rest more
-
--- ---- where it was made
-
-record MadeAt (first : At) (calls : List Call) (c : Call) : Type 0 where
-  earlier : List Call
-  later : List Call
-  before : At
-  after : At
-  parts : calls ≡ earlier ++ later
-  lead : CallsLead first earlier before
-  counted : IsCounted (is_fault c.reply) before.faults after.faults
-  step : Step before.faults after.faults before.machine c.event c.reply after.machine
-
-made_at : (first last : At) (calls : List Call) (c : Call) → CallsLead first calls last → Has calls c → MadeAt first calls c
-made_at first last [] c lead this = absurd this
-made_at first last (x ∷ calls) c (now, between, counted, step, rest) (inl is) =
-    let after : At = record { machine = between; faults = now } in
-    subst (λ (y : Call). MadeAt first (x ∷ calls) y) is (record {
-      earlier = [];
-      later = x ∷ calls;
-      before = first;
-      after = after;
-      parts = refl;
-      lead = (refl, refl);
-      counted = counted;
-      step = step;
-    })
-made_at first last (x ∷ calls) c (now, between, counted, step, rest) (inr more) =
-    let found = made_at (record { machine = between; faults = now }) last calls c rest more in record {
-      earlier = x ∷ found.earlier;
-      later = found.later;
-      before = found.before;
-      after = found.after;
-      parts = ap (λ (cs : List Call). x ∷ cs) found.parts;
-      lead = (now, between, counted, step, found.lead);
-      counted = found.counted;
-      step = found.step;
-    }
-
--- A push of a client was answered at a place on the way.
-record PushedAt (reading : Reading) (moment : ℕ) (reply : Reply) (first : At) (entries : List Entry) : Type 0 where
-  earlier : List Call
-  later : List Call
-  before : At
-  after : At
-  parts : map call_of entries ≡ earlier ++ later
-  lead : CallsLead first earlier before
-  answered : IsAnswered false (Ok (request.Push reading moment)) before reply after
-
-pushed_at : (told : Bool) (first last : At) (scripts : List (List Item)) (answers : List Answered) (entries : List Entry) (reading : Reading) (moment : ℕ) (reply : Reply)
-    → Ran told first scripts answers entries last → WasReplied scripts answers (Ok (request.Push reading moment)) reply → PushedAt reading moment reply first entries
-pushed_at told first last scripts answers entries reading moment reply ran this =
-    let so = pushed_so reading moment reply 0 scripts answers entries ran.served this in
-    let at = made_at first last (map call_of entries) (call (event.Push reading.batch.spans moment) (push_reply so.answer)) ran.lead so.among in record {
-      earlier = at.earlier;
-      later = at.later;
-      before = at.before;
-      after = at.after;
-      parts = at.parts;
-      lead = at.lead;
-      answered = (so.answer, so.is, (counted_later (is_fault (push_reply so.answer)) at.before.faults at.after.faults at.counted, at.step, at.counted));
-    }
-
-pub refused_there : (told : Bool) (first last : At) (scripts : List (List Item)) (answers : List Answered) (entries : List Entry) (reading : Reading) (moment : ℕ) (why : Refusal)
-    → Ran told first scripts answers entries last → WasReplied scripts answers (Ok (request.Push reading moment)) (Refused why)
-    → (calls later : List Call) × (before after : At) × (map call_of entries ≡ calls ++ later) × CallsLead first calls before
-    × HasPushCause why (length reading.batch.spans) before after × (history_of after ≡ history_of before)
-refused_there told first last scripts answers entries reading moment why ran this =
-    let at = pushed_at told first last scripts answers entries reading moment (Refused why) ran this in
-    let cause = refused_for false reading moment at.before at.after why at.answered in
-    (at.earlier, at.later, at.before, at.after, at.parts, at.lead, cause.0, cause.1)
-
-pub accepted_there : (told : Bool) (first last : At) (scripts : List (List Item)) (answers : List Answered) (entries : List Entry) (reading : Reading) (moment number kept rejected skipped : ℕ)
-    → Ran told first scripts answers entries last → WasReplied scripts answers (Ok (request.Push reading moment)) (Pushed number kept rejected skipped)
-    → (calls later : List Call) × (before : At) × (map call_of entries ≡ calls ++ later) × CallsLead first calls before
-    × HasRoomForPush (length reading.batch.spans) before.machine × (number ≡ count_of (history_of before))
-accepted_there told first last scripts answers entries reading moment number kept rejected skipped ran this =
-    let at = pushed_at told first last scripts answers entries reading moment (Pushed number kept rejected skipped) ran this in
-    let room = accepted_with_room false reading moment at.before at.after number kept rejected skipped at.answered in
-    (at.earlier, at.later, at.before, at.parts, at.lead, room.0, room.1)
+numbers_given_once told first last scripts answers entries ran = in_a_row first.faults last.faults first.machine last.machine entries (led_legally told first last entries ran.lead)
 
 -- ---- one script
 
@@ -300,12 +155,6 @@ all_own n (e ∷ es) (here, below) none = at e.seat refl (all_own n es below (λ
         let gone : map call_of (e ∷ own (e.seat ∷ []) es) ≡ [] = ap (map call_of) (sym (own_itself e es)) ∙ none e.seat (omega (arith, is)) here in
         let bad : ⊥ = cc in absurd bad
 
-as_answered : (items : List Item) (replies : List Reply) (calls : List Call) → by_script.AreItemsAnswered items replies calls → AreItemsAnswered items replies calls
-as_answered [] replies calls are = are
-as_answered (i ∷ items) [] calls are = absurd are
-as_answered (Ok asked ∷ items) (r ∷ replies) calls (now, later, is, one, rest) = (now, later, is, one, as_answered items replies later rest)
-as_answered (Err why ∷ items) (r ∷ replies) calls (now, later, is, one, rest) = (now, later, is, one, as_answered items replies later rest)
-
 not_fewer : (a b : ℕ) → nat_lt a b ≡ false → b ≤ a
 not_fewer a b is = grind arith
 
@@ -322,7 +171,7 @@ one_session told first last script others answered answers entries ran none agre
     (as_answered script answered.replies.items (map call_of entries)
     (subst (λ (es : List Entry). by_script.AreItemsAnswered script answered.replies.items (map call_of es)) all
     (subst (λ (is : List Item). by_script.AreItemsAnswered is answered.replies.items (map call_of (own (0 ∷ []) entries))) items ran.served.0.first)))
-    ran.lead
+    (led_by_steps told first last entries ran.lead)
 
 -- ---- what was seen
 

@@ -33,11 +33,13 @@ pub record AsksAll (clients rounds : ℕ) (text : List ℕ) (ended : Ending) (sc
 
 -- How a run ends that asks nothing of the store, where these lines of `text` weren't read, and the source has that left: the source
 -- failed, or as many bytes were taken as a run takes, and every line was read that was ended in what was taken; or memory was wanted.
--- `clock` is what the clock had to give after the lines that were read.
+-- `clock` is what the clock had to give after the lines that were read. It is asked on only where these are all lines, and then once for
+-- each of the requests that keep the store up: memory was wanted after that.
 abbrev pub EndsUnasked : Ending → ℕ → List ℕ → List (List ℕ) → Option (List ℕ) → (clock to_tell : Option (List ℕ)) → Type 0
 EndsUnasked ReadFault rounds text later left clock to_tell = IsAllEnded text later left × (to_tell ≡ clock)
 EndsUnasked Spent rounds text later left clock to_tell = IsAllEnded text later left × (taken_limit ≤ length text) × (to_tell ≡ clock)
-EndsUnasked Starved rounds text later left clock to_tell = (to_tell ≡ clock) ⊎ (to_tell ≡ after_moments (4 * rounds) clock)
+EndsUnasked Starved rounds text later left clock to_tell =
+    (to_tell ≡ clock) ⊎ ((later ≡ []) × (length text < taken_limit) × (to_tell ≡ after_moments (4 * rounds) clock))
 EndsUnasked _ rounds text later left clock to_tell = ⊥
 
 -- Lines of `text` were read and dealt, some or all, and nothing was asked.
@@ -74,21 +76,22 @@ pub record IsServed (ended : Ending) (answers : List Answered) (old new : Option
   pub written : Appends old new (served_text 0 answers)
   pub ends : end_of (all_replies answers) ≡ ended
 
--- Memory was wanted: nothing was written, where it was before the end of some script; or else the replies before the first for whose text
--- there was none.
-pub record WritesFirst (answers : List Answered) (old new : Option (List ℕ)) : Type 0 where
-  pub first : List (List ℕ)
-  pub later : List (List ℕ)
-  pub texts_are : served_texts 0 answers ≡ first ++ later
-  pub written : Appends old new (concat first)
-  pub nothing : any_starved answers ≡ true → new ≡ old
+-- Memory was wanted, and not all replies were written.
+pub data StopsForMemory (answers : List Answered) (old new : Option (List ℕ)) : Type 0 where
+  -- before anything was asked
+  unasked : answers ≡ [] → new ≡ old → StopsForMemory answers old new
+  -- before the end of some script
+  starved : any_starved answers ≡ true → new ≡ old → StopsForMemory answers old new
+  -- for the text of a reply: those before it were written, and neither it nor a later one
+  cut_off : any_starved answers ≡ false → (first : List (List ℕ)) (text : List ℕ) (later : List (List ℕ)) → served_texts 0 answers ≡ first ++ text ∷ later
+      → Appends old new (concat first) → StopsForMemory answers old new
 
--- What stands written at each ending: all replies; the first of them, where memory was wanted; a first part of their text, where the sink
--- failed; nothing, where the source's end came before any request was answered.
+-- What stands written at each ending: all replies; the first of them and not all, or none, where memory was wanted; a first part of their
+-- text, where the sink failed; nothing, where the source's end came before any request was answered.
 abbrev pub EndsServing : Ending → List Answered → Option (List ℕ) → Option (List ℕ) → Type 0
 EndsServing answered answers old new = IsServed answered answers old new
 EndsServing Refused answers old new = IsServed Refused answers old new
-EndsServing Starved answers old new = IsServed Starved answers old new ⊎ WritesFirst answers old new
+EndsServing Starved answers old new = IsServed Starved answers old new ⊎ StopsForMemory answers old new
 EndsServing WriteFault answers old new = (any_starved answers ≡ false) × AppendsPrefix old new (served_text 0 answers)
 EndsServing ReadFault answers old new = new ≡ old
 EndsServing Spent answers old new = new ≡ old
@@ -126,11 +129,18 @@ outline s = record {
   last = last_place s;
 }
 
--- A run that served so many clients with so many rounds of upkeep, between the edges as they were and as they are. `told` says that what
--- the blocks of the store hold is told.
+-- Nothing was asked of the store, and no call of it was made.
+pub record IsUnasked (s : Served) : Type 0 where
+  pub no_scripts : s.scripts ≡ []
+  pub no_answers : s.answers ≡ []
+  pub no_entries : s.entries ≡ []
+
+-- A run that served so many clients with so many rounds of upkeep, between the edges as they were and as they are. Nothing was asked where
+-- it ends by the source, whether that tells its bytes or not. `told` says that what the blocks of the store hold is told.
 pub record IsServedRun (told : Bool) (clients rounds : ℕ) (s : Served) (old new : Edges) : Type 0 where
   pub opened : HasOpened (outline s) old new
   pub asked : Asks clients rounds old.left new.left s.ending s.scripts s.refused (after_moment old.moments) new.moments
+  pub unasked : NeedsNoSource s.ending ⊎ IsUnasked s
   pub ran : Ran told s.first s.scripts s.answers s.entries s.last
   pub ends : EndsServing s.ending s.answers old.taken new.taken
   pub cause : HasCause s.ending old new

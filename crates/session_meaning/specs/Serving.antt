@@ -4,7 +4,7 @@ use Rattle.std.specs.List.{Contains, concat, range_with_len}
 use Rattle.client_scripts.specs.Served.{AllTold, AreServed}
 use Rattle.client_scripts.specs.declared.script.Answered.{Answered}
 use Rattle.io_edges.specs.Lines.{line_limit}
-use Rattle.port_history.specs.Entries.{Entry, Legal, call_of}
+use Rattle.port_history.specs.Entries.{Entry}
 use Rattle.session_text.specs.declared.refusal.Refusal.TheVariants.{BadRequest, TooLong}
 use Rattle.session_text.specs.declared.reply.Reply.{Reply}
 use Rattle.session_text.specs.declared.request.Request.TheVariants.{Compact, Cut, Flush, Reclaim}
@@ -12,9 +12,9 @@ use Rattle.session_text.specs.Items.{Item}
 use Rattle.session_text.specs.Replies.{reply_text}
 use Rattle.session_text.specs.Requests.{AsksAt}
 use Rattle.store_model.specs.History.{count_of}
-use Rattle.session_meaning.specs.Answering.{CallsLead}
+use Rattle.store_model.specs.Told.{AreCounted}
 use Rattle.session_meaning.specs.Asked.{IsNextMoment, after_lines, after_moment}
-use Rattle.session_meaning.specs.At.{At, history_of}
+use Rattle.session_meaning.specs.At.{At, IsStep, history_of}
 
 -- ---- lines are dealt to clients
 
@@ -90,16 +90,29 @@ pub record AreScripts (clients rounds : ℕ) (lines : List (List ℕ)) (told : O
 
 -- ---- what they are answered
 
+-- A call of one client is a step of the store, and its entry has the counts of the disk's faults before and after it. Where what the blocks
+-- hold is told each listed block has as many rows afterwards as its information says.
+pub record IsMade (told : Bool) (before : At) (e : Entry) (after : At) : Type 0 where
+  pub from : e.before ≡ before.faults
+  pub to : e.after ≡ after.faults
+  pub step : IsStep before e.event e.reply after
+  pub counted : told ≡ true → AreCounted after.machine.state.blocks
+
+-- These calls were made in their order, each from where the one before it left the store.
+abbrev pub EntriesLead : Bool → At → List Entry → At → Type 0
+EntriesLead told before [] after = after ≡ before
+EntriesLead told before (e ∷ entries) after = (between : At) × IsMade told before e between × EntriesLead told between entries after
+
 -- Scripts were asked of one store at once, each in its own order, and answered so, from a first store to a last one. `entries` are the
 -- calls of the store that were made, in their one order: each is a step of it, and the count of its disk's faults goes on from one to the
 -- next, and rises by one with each call that answers a fault. Each call is one client's. Those of a client are just the ones by which its
 -- script was answered, in its order: all of the script, or its first items where memory was wanted. Where what the store holds is told,
--- as `told` says, each query tells of the last history as it was at some length: not below the first history's, with each push that its
--- client was told of before, and not below what a query of its client told before.
+-- as `told` says, each listed block has as many rows after each call as its information says; and each query tells of the last history as
+-- it was at some length: not below the first history's, with each push that its client was told of before, and not below what a query of
+-- its client told before.
 pub record Ran (told : Bool) (first : At) (scripts : List (List Item)) (answers : List Answered) (entries : List Entry) (last : At) : Type 0
   where
-    pub legal : Legal first.faults first.machine entries last.faults last.machine
-    pub lead : CallsLead first (map call_of entries) last
+    pub lead : EntriesLead told first entries last
     pub whose : (e : Entry) → Contains entries e → e.seat < length scripts
     pub served : AreServed 0 scripts answers entries
     pub seen : told ≡ true → AllTold (history_of last) (count_of (history_of first)) scripts answers

@@ -23,6 +23,8 @@ pub use laws::{
     what_is_stored_is_a_base,
 };
 pub use serving_laws::{
-    numbers_are_given_once, one_script_is_a_session, pushes_of_clients_have_their_causes,
-    serving_comes_to_an_end, what_was_seen_counts,
+    calls_of_clients_are_steps, clients_make_the_history, compactions_of_clients_are_counted,
+    numbers_are_given_once, one_call_answers_at_its_place, one_script_is_a_session,
+    pushes_of_clients_have_their_causes, serving_comes_to_an_end,
+    what_has_room_is_done_among_clients, what_was_seen_counts,
 };

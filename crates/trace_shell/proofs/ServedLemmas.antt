@@ -1,14 +1,14 @@
 -- What a run came to that served several clients, and what it left of its store.
 use Rattle.std.proofs.Common.{◌≡◌, inl, inr, ⊎_elim, ◌∙◌, Bool, true, false, ℕ, ◌≤◌, List, [], ◌∷◌, map, Option, None, IsTrue, ap, arith, refl, subst, sym}
 use Rattle.std.specs.Prelude.{IfSome}
-use Rattle.client_run.specs.CoreRuns.{AreSteps, unsure_after_calls}
+use Rattle.client_run.specs.CoreRuns.{unsure_after_calls}
 use Rattle.client_run.proofs.CoreLemmas.{KeepsSteps, counted_by, unsure_stepped}
 use Rattle.client_scripts.specs.Served.{AllTold, HasServed}
 use Rattle.client_scripts.specs.declared.script.Answered.{Answered}
 use Rattle.disk_model.specs.Crash.{Reached}
 use Rattle.disk_model.specs.Images.{Image}
 use Rattle.disk_model.specs.declared.disk.Device.{Ghosts}
-use Rattle.port_history.specs.Entries.{AreEntries, Entry, Legal, call_of, history_from}
+use Rattle.port_history.specs.Entries.{AreEntries, Entry, call_of, history_from}
 use Rattle.port_history.proofs.Chains.{entries_made, legal_history}
 use Rattle.session_text.specs.Items.{Item}
 use Rattle.store_core.specs.Cores.{CoreShows, CoreStandsFor, unsure_of}
@@ -19,7 +19,8 @@ use Rattle.store_entries.specs.declared.entry.Entry.{Entry as Added}
 use Rattle.store_images.specs.Stored.{IsTidy, KeepsStored}
 use Rattle.store_images.proofs.Lists.{not_in_nil}
 use Rattle.store_model.specs.History.{History, count_of}
-use Rattle.store_model.specs.Step.{Machine, Step}
+use Rattle.store_model.specs.Step.{Machine}
+use Rattle.store_model.specs.Told.{AreCounted}
 use Rattle.store_state.specs.Cores.{CoreKnows}
 use Rattle.store_reopen.specs.Through.{KeepsThrough}
 use Rattle.store_reopen.proofs.Through.{event_goes_on}
@@ -29,45 +30,51 @@ use Rattle.session_meaning.specs.Answering.{at_core}
 use Rattle.session_meaning.specs.Asked.{IsNextMoment, after_moment}
 use Rattle.session_meaning.specs.Runs.{Edges, HasCause, IsPastOpening, told_bytes}
 use Rattle.session_meaning.specs.ServedRuns.{EndsServing, IsServedRun, RecoversServed, Served}
-use Rattle.session_meaning.specs.Serving.{Ran}
+use Rattle.session_meaning.specs.Serving.{EntriesLead, Ran}
 use Rattle.session_meaning.specs.Stops.{AreTidy}
 use Rattle.session_meaning.proofs.CoreSessions.{StandsThrough}
+use Rattle.session_meaning.proofs.Counted.{blocks_counted}
 use Rattle.session_meaning.proofs.OnDisk.{calls_tidy, lists_state}
+use Rattle.session_meaning.proofs.ServedPlaces.{led_legally}
 use Rattle.trace_shell.specs.Serving.{CameServing}
 use Rattle.trace_shell.proofs.RunLemmas.{cause_of, if_told}
 
 -- ---- calls of a core, in their one order
 
 -- They lead from a machine that goes with the first core to one that goes with the last.
-record LedBy {D : Type 0} (g : Ghosts D) (is_with : Core D → Machine → Type 0) (old : Core D) (entries : List Entry) (new : Core D) (m : Machine) : Type 0 where
+record LedBy {D : Type 0} (g : Ghosts D) (told : Bool) (is_with : Core D → Machine → Type 0) (old : Core D) (entries : List Entry) (new : Core D) (m : Machine) : Type 0 where
   machine : Machine
   stands : is_with new machine
-  legal : Legal (g.faults old.disk) m entries (g.faults new.disk) machine
-  lead : AreSteps (g.faults old.disk) m (map call_of entries) (g.faults new.disk) machine
+  lead : EntriesLead told (at_core g old m) entries (at_core g new machine)
 
-led : {D : Type 0} (g : Ghosts D) (is_with : Core D → Machine → Type 0) → KeepsSteps g is_with → (old new : Core D) (entries : List Entry) → AreEntries (port_of g) old entries new
-    → (m : Machine) → is_with old m → LedBy g is_with old entries new m
-led {D} g is_with keeps old new [] made m stands =
-    let faults : g.faults new.disk ≡ g.faults old.disk = ap (λ (core : Core D). g.faults core.disk) made in record {
-      machine = m;
-      stands = subst (λ (core : Core D). is_with core m) (sym made) stands;
-      legal = (faults, refl);
-      lead = (faults, refl);
-    }
-led {D} g is_with keeps old new (e ∷ es) made m stands =
+led : {D : Type 0} (g : Ghosts D) (told : Bool) (is_with : Core D → Machine → Type 0) → KeepsSteps g is_with
+    → ((core : Core D) (m : Machine) → is_with core m → told ≡ true → AreCounted m.state.blocks)
+    → (old new : Core D) (entries : List Entry) → AreEntries (port_of g) old entries new → (m : Machine) → is_with old m → LedBy g told is_with old entries new m
+led {D} g told is_with keeps counted old new [] made m stands = record {
+  machine = m;
+  stands = subst (λ (core : Core D). is_with core m) (sym made) stands;
+  lead = ap (λ (core : Core D). at_core g core m) made;
+}
+led {D} g told is_with keeps counted old new (e ∷ es) made m stands =
     let one = keeps old made.0 e.event e.reply made.1.did m stands in
     let counts = made.1.did.counts in
-    let rest = led g is_with keeps made.0 new es made.4 one.0 one.1 in record {
+    let rest = led g told is_with keeps counted made.0 new es made.4 one.0 one.1 in record {
       machine = rest.machine;
       stands = rest.stands;
-      legal = (
-        one.0,
-        made.2,
-        omega (arith, made.1.later, made.3),
-        subst (λ (n : ℕ). Step (g.faults old.disk) n m e.event e.reply one.0) (sym made.3) one.2,
-        subst (λ (n : ℕ). Legal n one.0 es (g.faults new.disk) rest.machine) (sym made.3) rest.legal,
+      lead = (
+        at_core g made.0 one.0,
+        record {
+          from = made.2;
+          to = made.3;
+          step = (
+            omega (arith, made.1.later),
+            one.2,
+            counted_by e.reply (g.faults old.disk) (g.faults made.0.disk) counts.quiet counts.fault,
+          );
+          counted = counted made.0 one.0 one.1;
+        },
+        rest.lead,
       );
-      lead = (g.faults made.0.disk, one.0, counted_by e.reply (g.faults old.disk) (g.faults made.0.disk) counts.quiet counts.fault, one.2, rest.lead);
     }
 
 -- A core knows the history of a machine that it stands for.
@@ -116,19 +123,19 @@ module _ {D : Type 0} (g : Ghosts D) (core later : Core D) (m : Machine) (entrie
   abbrev pub HasRan : (Core D → Machine → Type 0) → Bool → Type 0
   HasRan is_with told = (m' : Machine) × is_with later m' × Ran told (at_core g core m) scripts answers entries (at_core g later m')
 
-  ran : (is_with : Core D → Machine → Type 0) (told : Bool) (l : LedBy g is_with core entries later m)
+  ran : (is_with : Core D → Machine → Type 0) (told : Bool) (l : LedBy g told is_with core entries later m)
       → (told ≡ true → CoreStandsFor g core m × IsTrue (g.tells core.disk)) → HasRan is_with told
   ran is_with told l tells = (
     l.machine,
     l.stands,
     record {
-      legal = l.legal;
       lead = l.lead;
       whose = did.whose;
       served = did.served;
       seen = λ is.
           let stands = tells is in
-          let same : l.machine.history ≡ history_from m.history entries = legal_history (g.faults core.disk) (g.faults later.disk) m l.machine entries l.legal in
+          let same : l.machine.history ≡ history_from m.history entries = legal_history (g.faults core.disk) (g.faults later.disk) m l.machine entries
+          (led_legally told (at_core g core m) (at_core g later l.machine) entries l.lead) in
           subst (λ (h : History). AllTold h (count_of m.history) scripts answers) (sym same)
           (did.told stands.1 (record { history = m.history; holds = [] }) (knows_all g core m stands.0));
     },
@@ -137,19 +144,20 @@ module _ {D : Type 0} (g : Ghosts D) (core later : Core D) (m : Machine) (entrie
   -- Whatever the disk holds.
   pub ran_shown : CoreShows g core m → HasRan (CoreShows g) false
   ran_shown shows =
-      ran (CoreShows g) false (led g (CoreShows g) (λ old new e r d m shown. d.shown m shown) core later entries did.made m shows)
+      ran (CoreShows g) false
+      (led g false (CoreShows g) (λ old new e r d m shown. d.shown m shown) (λ core m shows is. let bad : ⊥ = cc in absurd bad) core later entries did.made m shows)
       (λ is. let bad : ⊥ = cc in absurd bad)
 
   -- Where the disk tells its bytes, and they were a store's.
   pub ran_through : (start : D) (least : ℕ) → StandsThrough g start least [] core m → HasRan (StandsThrough g start least []) true
   ran_through start least stands =
       ran (StandsThrough g start least []) true
-      (led g (StandsThrough g start least []) (λ old new e r d m has.
+      (led g true (StandsThrough g start least []) (λ old new e r d m has.
       let s = d.stepped m has.0 in (
         s.machine,
         (s.stands, subst IsTrue (sym d.counts.telling) has.1, event_goes_on g old new e r m start least [] d has.0 has.2),
         s.step,
-      )) core later entries did.made m stands)
+      )) (λ core m has is. blocks_counted g core m has.0 has.1) core later entries did.made m stands)
       (λ is. (stands.0, stands.1))
 
 module _ {D : Type 0} (g : Ghosts D) (disk : D) (moment clients rounds : ℕ) (core later : Core D) (first : Machine) (e : Ending) (blamed : List (List ℕ)) (opens : OpensOver g core first) where
@@ -171,6 +179,7 @@ module _ {D : Type 0} (g : Ghosts D) (disk : D) (moment clients rounds : ℕ) (c
       last_faults = last_faults;
     };
     asked = came.asked;
+    unasked = ⊎_elim (λ source. inl source) (λ none. inr (record { no_scripts = none.0; no_answers = none.1; no_entries = none.2 })) came.unasked;
     ran = ran;
     ends = came.ends;
     cause = cause;

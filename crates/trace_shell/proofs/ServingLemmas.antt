@@ -24,7 +24,7 @@ use Rattle.session_meaning.specs.Serving.{AreCuts, after_moments, compactions}
 use Rattle.trace_shell.specs.Dealing.{HasDealt, HasStopped, IsEarly}
 use Rattle.trace_shell.specs.Serving.{CameServing}
 use Rattle.trace_shell.proofs.RunLemmas.{if_some}
-use Rattle.trace_shell.proofs.WritingLemmas.{starved_ends}
+use Rattle.trace_shell.proofs.WritingLemmas.{unasked_ends}
 
 -- ---- words
 
@@ -69,7 +69,7 @@ none_served meaning old new same = record {
 pub ends_early : (e : Ending) (old : Option (List ℕ)) → IsEarly e → EndsServing e [] old old
 ends_early e old (inl is) = subst (λ (x : Ending). EndsServing x [] old old) (sym is) refl
 ends_early e old (inr (inl is)) = subst (λ (x : Ending). EndsServing x [] old old) (sym is) refl
-ends_early e old (inr (inr is)) = subst (λ (x : Ending). EndsServing x [] old old) (sym is) (starved_ends old [])
+ends_early e old (inr (inr is)) = subst (λ (x : Ending). EndsServing x [] old old) (sym is) (unasked_ends old)
 
 module _ (clients rounds : ℕ) (told : Option (List ℕ)) (text : List ℕ) where
   pub asks_stopped : (left to_tell : Option (List ℕ)) (e : Ending) (blamed : List (List ℕ)) → IsEarly e → HasStopped clients told text left to_tell e blamed
@@ -122,7 +122,7 @@ module _ (clients rounds : ℕ) (told : Option (List ℕ)) (text : List ℕ) whe
       where
         at : (to_tell ≡ between) ⊎ (to_tell ≡ after_moments (4 * rounds) between) → EndsUnasked Starved rounds text [] left (after_lines (lines text) told) to_tell
         at (inl same) = inl (same ∙ h.clock)
-        at (inr later) = inr (later ∙ ap (after_moments (4 * rounds)) h.clock)
+        at (inr later) = inr (refl, h.short, later ∙ ap (after_moments (4 * rounds)) h.clock)
 
     -- All was asked.
     pub asks_all : (e : Ending) (all : List (List Item)) (cuts : List Item) → AreCuts rounds between cuts → all ≡ scripts ++ cuts ∷ compactions rounds ∷ []
@@ -164,6 +164,7 @@ came_unasked g clients rounds core later old_left left old_taken taken told to_t
   entries = [];
   served = none_served (port_of g) core later same;
   asked = if_some old_left (λ text. AsksAll clients rounds text e [] blamed told to_tell ⊎ AsksNone clients rounds text left e [] blamed told to_tell) (λ text is. inr (asks text is));
+  unasked = inr (refl, refl, refl);
   ends = ends;
 }
 
@@ -182,7 +183,7 @@ module _ {D : Type 0} (g : Ghosts D) (clients rounds : ℕ) (core : Core D) (old
     pub came_starved : (later : Core D) → later ≡ core → (to_tell ≡ between) ⊎ (to_tell ≡ after_moments (4 * rounds) between)
         → CameServing g clients rounds core later old_left left old_taken old_taken told to_tell Starved blamed
     came_starved later same clock =
-        came_unasked g clients rounds core later old_left left old_taken old_taken told to_tell Starved blamed same (starved_ends old_taken [])
+        came_unasked g clients rounds core later old_left left old_taken old_taken told to_tell Starved blamed same (unasked_ends old_taken)
         (λ text is. asks_starved clients rounds told text left between to_tell scripts blamed (dealt text is) clock)
 
     -- All was asked.
@@ -197,6 +198,7 @@ module _ {D : Type 0} (g : Ghosts D) (clients rounds : ℕ) (core : Core D) (old
       served = did;
       asked = if_some old_left (λ text. AsksAll clients rounds text e all blamed told to_tell ⊎ AsksNone clients rounds text left e all blamed told to_tell)
           (λ text source. inl (asks_all clients rounds told text left between to_tell scripts blamed (dealt text source) e all cuts are_cuts is clock no_source));
+      unasked = inl no_source;
       ends = ends;
     }
 

@@ -10,6 +10,7 @@ use Rattle.session_text.specs.declared.reply.Reply.{Reply}
 use Rattle.session_meaning.specs.declared.ending.Ending.{Ending}
 use Rattle.session_meaning.specs.declared.ending.Ending.TheVariants.{Answered as answered, BadWords, NotOpened, NotStore, ReadFault, Refused, Spent, Starved, WriteFault}
 use Rattle.session_meaning.specs.ServedRuns.{EndsServing, all_replies, any_starved}
+use Rattle.session_meaning.specs.ServedRuns.{StopsForMemory as stops}
 use Rattle.session_meaning.specs.Serving.{reply_to, served_texts, texts_to}
 use Rattle.session_meaning.specs.Session.{end_of, is_for_memory, is_refusal}
 use Rattle.trace_shell.specs.Serving.{HaveBeenGiven, tally_after}
@@ -42,8 +43,8 @@ pub given_then : (s t u : Sunk) (x y z : Tally) (rs qs : List Reply) (a b : List
     → HaveBeenGiven s u x z (rs ++ qs) (a ++ b) stopped
 given_then s t u x y z rs qs a b None one two =
     (together s t u a b one.0 two.0, two.1 ∙ ap (λ (v : Tally). tally_after v qs) one.1 ∙ tally_then rs qs x)
-given_then s t u x y z rs qs a b (Some Starved) one (first, later, is, written) =
-    (a ++ first, later, ap (λ (ts : List (List ℕ)). a ++ ts) is ∙ sym (append_assoc a first later), together s t u a first one.0 written)
+given_then s t u x y z rs qs a b (Some Starved) one (first, text, later, is, written) =
+    (a ++ first, text, later, ap (λ (ts : List (List ℕ)). a ++ ts) is ∙ sym (append_assoc a first (text ∷ later)), together s t u a first one.0 written)
 given_then s t u x y z rs qs a b (Some WriteFault) one two =
     subst (λ (bs : List ℕ). AppendsPrefix s u bs) (sym (concat-append a b)) (prefix_then s t u (concat a) (concat b) one.0 two)
 given_then s t u x y z rs qs a b (Some answered) one two = absurd two
@@ -56,8 +57,8 @@ given_then s t u x y z rs qs a b (Some Spent) one two = absurd two
 
 -- What was cut off is cut off of more.
 pub given_cut : (s t : Sunk) (x y : Tally) (rs qs : List Reply) (a b : List (List ℕ)) (e : Ending) → HaveBeenGiven s t x y rs a (Some e) → HaveBeenGiven s t x y (rs ++ qs) (a ++ b) (Some e)
-given_cut s t x y rs qs a b Starved (first, later, is, written) =
-    (first, later ++ b, ap (λ (ts : List (List ℕ)). ts ++ b) is ∙ append_assoc first later b, written)
+given_cut s t x y rs qs a b Starved (first, text, later, is, written) =
+    (first, text, later ++ b, ap (λ (ts : List (List ℕ)). ts ++ b) is ∙ append_assoc first (text ∷ later) b, written)
 given_cut s t x y rs qs a b WriteFault one = subst (λ (bs : List ℕ). AppendsPrefix s t bs) (sym (concat-append a b)) (prefix_here s t (concat a) (concat b) one)
 given_cut s t x y rs qs a b answered one = absurd one
 given_cut s t x y rs qs a b BadWords one = absurd one
@@ -192,17 +193,17 @@ served_ends old new answers t after e whole none given is =
     (λ so. record { whole = whole; written = given.0; ends = so }))
 
 -- Memory was wanted before the end of some script.
-pub starved_ends : (taken : Sunk) (answers : List Answered) → EndsServing Starved answers taken taken
-starved_ends taken answers = inr (record { first = []; later = served_texts 0 answers; texts_are = refl; written = appends_nothing taken; nothing = λ _. refl })
+pub starved_ends : (taken : Sunk) (answers : List Answered) → any_starved answers ≡ true → EndsServing Starved answers taken taken
+starved_ends taken answers some = inr (stops.starved some refl)
+
+-- Memory was wanted before anything was asked.
+pub unasked_ends : (taken : Sunk) → EndsServing Starved [] taken taken
+unasked_ends taken = inr (stops.unasked refl refl)
 
 -- Not all could be written.
 pub cut_ends : (old new : Sunk) (answers : List Answered) (t after : Tally) (e : Ending) → any_starved answers ≡ false
     → HaveBeenGiven old new t after (all_replies answers) (served_texts 0 answers) (Some e) → EndsServing e answers old new
-cut_ends old new answers t after Starved whole (first, later, is, written) =
-    inr (record { first = first; later = later; texts_are = is; written = written; nothing = λ starved. differ (sym whole ∙ starved) })
-  where
-    differ : false ≡ true → new ≡ old
-    differ e = let bad : ⊥ = cc in absurd bad
+cut_ends old new answers t after Starved whole (first, text, later, is, written) = inr (stops.cut_off whole first text later is written)
 cut_ends old new answers t after WriteFault whole given = (whole, given)
 cut_ends old new answers t after answered whole given = absurd given
 cut_ends old new answers t after BadWords whole given = absurd given

@@ -4,5 +4,9 @@ pub returns-clause-answers : goal.returns-clause-answers
 returns-clause-answers g c words s old new serves =
     c.what_was_seen_counts.ensures s.first s.last s.scripts s.answers s.entries serves.3.ran
 
+pub returns-clause-pushes : goal.returns-clause-pushes
+returns-clause-pushes g c told words s old new serves =
+    c.clients_make_the_history.ensures told s.first s.last s.scripts s.answers s.entries serves.3.ran
+
 pub returns-clause-stored : goal.returns-clause-stored
 returns-clause-stored g c s recovers = (recovers.begins.stored, recovers.returned)

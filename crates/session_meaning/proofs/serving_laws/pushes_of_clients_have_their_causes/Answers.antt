@@ -1,4 +1,4 @@
-use Rattle.session_meaning.proofs.ServedLaws.{accepted_there, refused_there}
+use Rattle.session_meaning.proofs.ServedCauses.{accepted_there, refused_there}
 use Rattle.session_meaning.proofs.serving_laws.pushes_of_clients_have_their_causes.Goals as goal
 
 pub returns-clause-refused : goal.returns-clause-refused

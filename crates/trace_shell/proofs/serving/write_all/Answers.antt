@@ -7,7 +7,8 @@ use Rattle.trace_shell.proofs.WritingLemmas.{cut_by_sink, cut_ends, not_by_sink,
 use Rattle.trace_shell.proofs.serving.write_all.Goals as goal
 
 pub returns-then-is_any_starved-clause-ends : goal.returns-then-is_any_starved-clause-ends
-returns-then-is_any_starved-clause-ends g c = starved_ends (g.K.Sink.taken c.args.sink.now) c.args.answers.now
+returns-then-is_any_starved-clause-ends g c =
+    starved_ends (g.K.Sink.taken c.args.sink.now) c.args.answers.now (sym c.is_any_starved.ensures ∙ c.if-is_any_starved.true)
 
 pub returns-in-Some-clause-ends : goal.returns-in-Some-clause-ends
 returns-in-Some-clause-ends g c =
