@@ -4,9 +4,8 @@ use crate::live::both;
 use crate::store::{Answer, first_answer};
 use block_build::build;
 use disk_model::{MemDisk, write_through};
-use span_types::{Bytes, Memory, Place, Row, Rows};
+use span_types::{Bytes, Failed, Memory, Place, Row, Rows};
 use std::alloc::Global;
-use std::test::Fail;
 use store_core::OpenError;
 
 // A slot 0 whose list names a segment in file 2, from the number 1 on, and a block in file 3, of level 0 (byte 46)
@@ -21,19 +20,54 @@ fn slot_of(rows: u8) -> [u8; 51] {
 // A segment without records.
 const NO_RECORD: [u8; 2] = [1, 0];
 
-// What the store answers whose list names a block of so many rows, with these bytes in the segment and in the block: a
-// push's number, or why it isn't opened.
-fn opened(
-    alloc: Global,
-    rows: u8,
-    segment: &[u8],
-    block: &[u8],
-) -> Result<Result<Answer, OpenError>, Fail> {
+// The rows that the list says, the bytes of the segment, how many bytes of the block's file are left, and what the store then answers:
+// a push's number, or why it isn't opened.
+type Opened = (u8, &'static [u8], usize, Result<Answer, OpenError>);
+
+static OPENED: [Opened; 6] = [
+    (2, &NO_RECORD, 16_384, Ok(Ok(1))),
+    // The list says another number of rows, or the file has nothing, or its last byte is missing.
+    (
+        3,
+        &NO_RECORD,
+        16_384,
+        Err(OpenError::NotStore { file: 3, at: 0 }),
+    ),
+    (
+        2,
+        &NO_RECORD,
+        0,
+        Err(OpenError::NotStore { file: 3, at: 0 }),
+    ),
+    (
+        2,
+        &NO_RECORD,
+        16_383,
+        Err(OpenError::NotStore {
+            file: 3,
+            at: 16_383,
+        }),
+    ),
+    // A segment without a gate breaks at its end, after the block.
+    (2, &[], 16_384, Err(OpenError::NotStore { file: 2, at: 0 })),
+    (3, &[], 16_384, Err(OpenError::NotStore { file: 3, at: 0 })),
+];
+
+// A disk whose list names a block of so many rows, with these bytes in the segment and in the block.
+fn disk_of(alloc: Global, rows: u8, segment: &[u8], block: &[u8]) -> Result<MemDisk, Failed> {
     let mut disk = MemDisk::empty(alloc);
     write_through(&mut disk, 0, 0, &slot_of(rows))?;
     write_through(&mut disk, 2, 0, segment)?;
     write_through(&mut disk, 3, 0, block)?;
-    Ok(first_answer(alloc, disk).0)
+    Ok(disk)
+}
+
+fn is_answered(alloc: Global, row: &Opened, block: &[u8]) -> bool {
+    let (rows, segment, count, wanted) = row;
+    match disk_of(alloc, *rows, segment, block.get(..*count).unwrap_or(&[])) {
+        Ok(disk) => first_answer(alloc, disk).0 == *wanted,
+        Err(_) => false,
+    }
 }
 
 fn add_row(rows: &mut Vec<Row>, position: u32, span: span_types::Span) -> Result<(), Memory> {
@@ -59,28 +93,11 @@ fn two_rows(alloc: Global) -> Result<Bytes, Memory> {
     Ok(build(alloc, Rows::of(rows))?.bytes)
 }
 
-// The block is malformed at this byte.
-fn breaks(at: u64) -> Result<Answer, OpenError> {
-    Err(OpenError::NotStore { file: 3, at })
-}
-
 #[test]
-fn a_listed_block_is_checked(rt: HostRuntime) -> Result<(), Fail> {
-    let alloc = rt.alloc();
-    let block = two_rows(alloc)?;
-    let bytes = block.as_slice();
-    assert!(rt; opened(alloc, 2, &NO_RECORD, bytes)? == Ok(Ok(1)));
-    // The list says another number of rows, or the file has nothing.
-    assert!(rt; opened(alloc, 3, &NO_RECORD, bytes)? == breaks(0));
-    assert!(rt; opened(alloc, 2, &NO_RECORD, &[])? == breaks(0));
-    // Its last byte is missing.
-    if let Some((_, front)) = bytes.split_last() {
-        let end = front.len() as u64;
-        assert!(rt; opened(alloc, 2, &NO_RECORD, front)? == breaks(end));
+fn a_listed_block_is_checked(rt: HostRuntime) {
+    let block = two_rows(rt.alloc()).expect(&rt, "memory");
+    for (row, opened) in OPENED.iter().enumerate() {
+        let same = is_answered(rt.alloc(), opened, block.as_slice());
+        assert!(&rt; same, "row {row}");
     }
-    // A segment without a gate breaks at its end, after the block.
-    let no_gate = Err(OpenError::NotStore { file: 2, at: 0 });
-    assert!(rt; opened(alloc, 2, &[], bytes)? == no_gate);
-    assert!(rt; opened(alloc, 3, &[], bytes)? == breaks(0));
-    Ok(())
 }

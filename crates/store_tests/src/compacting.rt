@@ -1,5 +1,5 @@
 //! Compactions of a store over a disk in memory while a look is open, and the emptying of loose files after them:
-//! what each device call leaves that fails or is the last one before a crash.
+//! what each device call leaves that is the last one before a crash.
 
 ghost use Rattle.std.specs.Prelude.{List};
 ghost use Rattle.store_core.specs.Port.{port_of};
@@ -248,58 +248,27 @@ fn stopped_end(calls: u64) -> End {
     }
 }
 
-fn failed_end(call: u64) -> End {
-    match call {
-        1..=2 => (FAULT, READ_ONLY),
-        // The job's file is emptied too.
-        3..=6 => (FAULT, Ok(3)),
-        7..=14 => (FAULT, READ_ONLY),
-        _ => (JOINED, Err(ReclaimError::Fault)),
+// Whether all compactions that stop after these calls end as worked out.
+fn stop(alloc: Global, from: u64, below: u64) -> Result<bool, Fail> {
+    let before = calls_before(alloc);
+    let mut same = true;
+    for calls in from..below {
+        let what = Upset::Stops(before.saturating_add(calls));
+        same &= ends(alloc, what, stopped_end(calls))?;
     }
-}
-
-#[test]
-fn a_look_keeps_the_blocks_that_are_joined(rt: HostRuntime) -> Result<(), Fail> {
-    assert!(rt; ends(rt.alloc(), Upset::Nothing, (JOINED, Ok(2)))?);
-    Ok(())
+    Ok(same)
 }
 
 #[test]
 fn a_compaction_that_is_stopped_keeps_both_entries(rt: HostRuntime) -> Result<(), Fail> {
-    let alloc = rt.alloc();
-    for calls in 0u64..14 {
-        let what = Upset::Stops(calls_before(alloc).saturating_add(calls));
-        assert!(rt; ends(alloc, what, stopped_end(calls))?, "{calls} calls");
-    }
+    let same = stop(rt.alloc(), 0, 14)?;
+    assert!(rt; same);
     Ok(())
 }
 
 #[test]
 fn emptying_that_is_stopped_keeps_both_entries(rt: HostRuntime) -> Result<(), Fail> {
-    let alloc = rt.alloc();
-    for calls in 14u64..25 {
-        let what = Upset::Stops(calls_before(alloc).saturating_add(calls));
-        assert!(rt; ends(alloc, what, stopped_end(calls))?, "{calls} calls");
-    }
-    Ok(())
-}
-
-#[test]
-fn a_compaction_with_a_failed_call_keeps_both_entries(rt: HostRuntime) -> Result<(), Fail> {
-    let alloc = rt.alloc();
-    for call in 1u64..15 {
-        let what = Upset::Fails(calls_before(alloc).saturating_add(call));
-        assert!(rt; ends(alloc, what, failed_end(call))?, "call {call}");
-    }
-    Ok(())
-}
-
-#[test]
-fn emptying_with_a_failed_call_keeps_both_entries(rt: HostRuntime) -> Result<(), Fail> {
-    let alloc = rt.alloc();
-    for call in 15u64..25 {
-        let what = Upset::Fails(calls_before(alloc).saturating_add(call));
-        assert!(rt; ends(alloc, what, failed_end(call))?, "call {call}");
-    }
+    let same = stop(rt.alloc(), 14, 25)?;
+    assert!(rt; same);
     Ok(())
 }

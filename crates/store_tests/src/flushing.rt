@@ -1,5 +1,4 @@
-//! Flushes of a store over a disk in memory: one is open at a time, and what each device call of a flush leaves that
-//! fails or is the last one before a crash.
+//! Flushes of a store over a disk in memory: one is open at a time, and what one leaves that fails is freed.
 
 ghost use Rattle.std.specs.Prelude.{List};
 ghost use Rattle.store_model.specs.Holds.{Hold};
@@ -8,15 +7,13 @@ ghost use Rattle.store_state.specs.Meaning.{IsOpen};
 
 use crate::live::has_rows;
 use crate::store::{Step, Upset, Upsets, counted, played};
-use block_info::SharedInfo;
 use block_list::load;
 use disk_model::{Device, MemDisk};
 use flusher::flush_round;
-use span_types::Memory;
 use std::alloc::Global;
 use std::test::Fail;
 use store_core::{Core, a_shown_core_is_a_port};
-use store_state::{BeginError, FlushJob, FlushPort, Look, LookPort, Refusal, Round};
+use store_state::{BeginError, FlushJob, FlushPort, Refusal, Round};
 
 // The disk of a store with one push of two rows. It has the list in slot 0, and one segment.
 fn with_push(alloc: Global) -> (bool, MemDisk) {
@@ -114,108 +111,12 @@ pub(crate) fn flushed_one(alloc: Global) -> Option<MemDisk> {
     (pushed && end.is_some()).then_some(disk)
 }
 
-// Where the rows of the push are.
-#[derive(Clone, Copy)]
-enum Place {
-    InMemory,
-    InBlock,
-    InEither,
-}
-
-fn wait(look: &Look) -> bool {
-    look.pin.blocks.len() == 0 && has_rows(look.rows.copy_rows(), &[(0, 0), (0, 1)])
-}
-
-fn is_block(infos: &[SharedInfo]) -> bool {
-    infos.len() == 1 && infos[0].get().rows == 2
-}
-
-fn are_listed(look: &Look) -> bool {
-    is_block(look.pin.blocks.as_slice()) && has_rows(look.rows.copy_rows(), &[])
-}
-
-// Whether a look is of that push alone, whose rows are there.
-fn is_push(look: &Look, place: Place) -> bool {
-    let is_there = match place {
-        Place::InMemory => wait(look),
-        Place::InBlock => are_listed(look),
-        Place::InEither => wait(look) || are_listed(look),
-    };
-    is_there && look.as_of == 1
-}
-
-fn shows<D: Device>(alloc: Global, disk: D, place: Place) -> bool {
-    match Core::open_store(alloc, disk, 7) {
-        Ok(core) => {
-            let mut core = core;
-            match core.look() {
-                Ok(look) => is_push(&look, place),
-                Err(_) => false,
-            }
-        }
-        Err(_) => false,
-    }
-}
-
-// Whether each image of a disk is a store with that push alone.
-fn images_show(alloc: Global, disk: &MemDisk, place: Place) -> Result<bool, Memory> {
-    let mut same = true;
-    for pick in 0u64..12 {
-        same &= shows(alloc, disk.image(pick)?, place);
-    }
-    Ok(same)
-}
-
-// Whether a flush that is upset ends so, and the push is there in all that it leaves.
-fn ends(alloc: Global, what: Upset, end: End, place: Place) -> Result<bool, Memory> {
-    let (pushed, disk) = with_push(alloc);
-    let mut disk = disk;
-    let ready = disk.upset(alloc, what);
-    let (found, disk) = flushed(alloc, disk);
-    let same = pushed && ready && found == Some(end) && disk.starved() == 0;
-    Ok(same && images_show(alloc, &disk, place)?)
-}
-
 // The opening makes 25 calls: both slots are synced, measured and read, the segment is synced and read in two, and the
 // eight files from the next one on are synced and measured.
 const OPENING: u64 = 25;
 
 // What a flush answers that fails, and then the next one.
 const FAILS: End = (Round::Refused(Refusal::Fault), Some(1));
-
-const ENDS: End = (Round::Did { blocks: 1, rows: 2 }, None);
-
-// A flush makes five calls for its two files, one for the block's piece, one that makes the block last, and six for
-// the list, the last but one of which writes the byte with which the list counts.
-#[test]
-fn a_flush_that_is_stopped_keeps_the_push(rt: HostRuntime) -> Result<(), Fail> {
-    let alloc = rt.alloc();
-    for calls in 0u64..14 {
-        let (end, place) = match calls {
-            13 => (ENDS, Place::InBlock),
-            12 => (FAILS, Place::InEither),
-            _ => (FAILS, Place::InMemory),
-        };
-        let what = Upset::Stops(OPENING + calls);
-        assert!(rt; ends(alloc, what, end, place)?, "{calls} calls");
-    }
-    Ok(())
-}
-
-#[test]
-fn a_flush_with_a_failed_call_keeps_the_push(rt: HostRuntime) -> Result<(), Fail> {
-    let alloc = rt.alloc();
-    for call in 1u64..14 {
-        let place = if call < 12 {
-            Place::InMemory
-        } else {
-            Place::InEither
-        };
-        let what = Upset::Fails(OPENING + call);
-        assert!(rt; ends(alloc, what, FAILS, place)?, "call {call}");
-    }
-    Ok(())
-}
 
 // Whether the files from the list's next number on are empty.
 fn is_free_beyond(alloc: Global, disk: &mut MemDisk) -> Result<bool, Fail> {
@@ -238,23 +139,25 @@ fn left_by_a_failed_flush(alloc: Global, call: u64) -> Option<MemDisk> {
     (pushed && ready && found == Some(FAILS)).then_some(disk)
 }
 
+// Whether a flush whose call of this number fails leaves files behind or none, and the next opening, which finds the push, frees them.
+fn is_freed(alloc: Global, call: u64) -> Result<bool, Fail> {
+    let Some(disk) = left_by_a_failed_flush(alloc, call) else {
+        return Ok(false);
+    };
+    let mut disk = disk;
+    let was_free = is_free_beyond(alloc, &mut disk)?;
+    let (found, disk) = counted(alloc, disk);
+    let mut disk = disk;
+    let is_free = is_free_beyond(alloc, &mut disk)?;
+    Ok(was_free == (call < 5) && found == Some(1) && is_free && disk.starved() == 0)
+}
+
 // The first two calls empty the block's file; the third empties the segment's, and the fourth writes its first bytes.
 #[test]
 fn what_a_failed_flush_left_is_freed_by_the_next_opening(rt: HostRuntime) -> Result<(), Fail> {
-    let alloc = rt.alloc();
     for call in 1u64..12 {
-        let Some(disk) = left_by_a_failed_flush(alloc, call) else {
-            return Err(Fail::from("another flush"));
-        };
-        let mut disk = disk;
-        assert_eq!(rt; is_free_beyond(alloc, &mut disk)?, call < 5, "call {call}");
-        let (found, disk) = counted(alloc, disk);
-        let mut disk = disk;
-        assert!(rt;
-            found == Some(1) && is_free_beyond(alloc, &mut disk)?,
-            "call {call}"
-        );
-        assert_eq!(rt; disk.starved(), 0, "call {call}");
+        let is_freed = is_freed(rt.alloc(), call)?;
+        assert!(rt; is_freed, "call {call}");
     }
     Ok(())
 }

@@ -2,7 +2,7 @@
 //!
 //! - Opening: `opening`, `blocks` (a listed block that is malformed). Running: `pushes`, `flushing`, `compacting`,
 //!   `frames` (the page cache).
-//! - Without a disk: `live` (rows in memory), `lists` (what commits make of the list).
+//! - Without a disk: `live` (rows in memory).
 //! - `store` plays calls on a store over a disk in memory, for the others.
 #![tactic(auto)]
 
@@ -14,8 +14,6 @@ mod compacting;
 mod flushing;
 #[cfg(test)]
 mod frames;
-#[cfg(test)]
-mod lists;
 #[cfg(test)]
 mod live;
 #[cfg(test)]

@@ -28,34 +28,47 @@ const TWO: Key = Key {
 
 pub(crate) const SECOND: u64 = 1_000_000_000;
 
-fn text(alloc: Global) -> Result<Text, Memory> {
-    Ok(Text::of(String::from_str(alloc, "")?))
+fn text(alloc: Global) -> Text {
+    Text::of(String::new(alloc))
+}
+
+fn resource(alloc: Global) -> Result<SharedResource, Memory> {
+    let attrs = Attrs::none(alloc);
+    SharedResource::of(alloc, Resource { attrs })
+}
+
+fn scope(alloc: Global) -> Result<SharedScope, Memory> {
+    let name = text(alloc);
+    let version = text(alloc);
+    let attrs = Attrs::none(alloc);
+    SharedScope::of(
+        alloc,
+        Scope {
+            name,
+            version,
+            attrs,
+        },
+    )
 }
 
 fn span(alloc: Global, key: Key) -> Result<Span, Memory>
     requires { AreNames key.trace key.span None }
 {
-    let attrs = Attrs::none(alloc);
-    let resource = Resource { attrs };
-    let attrs = Attrs::none(alloc);
-    let scope = Scope {
-        name: text(alloc)?,
-        version: text(alloc)?,
-        attrs,
-    };
+    let resource = resource(alloc)?;
+    let scope = scope(alloc)?;
     Ok(Span {
         trace: key.trace,
         id: key.span,
         parent: None,
-        name: text(alloc)?,
+        name: text(alloc),
         kind: SpanKind::Server,
         start: 1,
         end: 2,
         status: StatusCode::Unset,
-        message: text(alloc)?,
+        message: text(alloc),
         attrs: Attrs::none(alloc),
-        resource: SharedResource::of(alloc, resource)?,
-        scope: SharedScope::of(alloc, scope)?,
+        resource,
+        scope,
         events: Seq::none(alloc),
         links: Seq::none(alloc),
     })

@@ -1,5 +1,5 @@
-//! Stores that are opened on bytes which were worked out by hand: lists whose numbers are spent, closed gates, loose
-//! files, and new stores that are stopped.
+//! Stores that are opened on bytes which were worked out by hand: lists whose numbers are spent, closed gates, and loose
+//! files.
 
 use crate::store::{Answer, Step, counted, first_answer, played, pushes_in};
 use block_list::load;
@@ -37,53 +37,72 @@ fn numbered(next_file: u32, floor: u64, first: u64) -> [u8; 42] {
     slot
 }
 
-// The slot is malformed at this byte.
-fn breaks(at: u64) -> Result<Answer, OpenError> {
-    Err(OpenError::NotStore { file: 0, at })
+// The next file, the floor, the first number of the segment, and what a push is answered.
+type List = (u32, u64, u64, Result<Answer, OpenError>);
+
+static LISTS: [List; 9] = [
+    (3, 0, 0, Ok(Ok(0))),
+    (4_294_967_294, 0, 0, Ok(Ok(0))),
+    (4_294_967_295, 0, 0, Ok(Ok(0))),
+    (2, 0, 0, Err(OpenError::NotStore { file: 0, at: 30 })),
+    (3, 4_294_967_294, 4_294_967_294, Ok(Ok(4_294_967_294))),
+    (
+        3,
+        4_294_967_295,
+        4_294_967_295,
+        Ok(Err(PushError::StoreFull {
+            pushes: 4_294_967_295,
+        })),
+    ),
+    (
+        3,
+        4_294_967_296,
+        4_294_967_296,
+        Err(OpenError::NotStore { file: 0, at: 34 }),
+    ),
+    (3, 1, 0, Err(OpenError::NotStore { file: 0, at: 34 })),
+    (3, 0, 1, Err(OpenError::NotStore { file: 0, at: 34 })),
+];
+
+// Whether a push is answered so by the store of this slot and segment.
+fn is_answered(
+    alloc: Global,
+    slot: &[u8],
+    segment: &[u8],
+    wanted: Result<Answer, OpenError>,
+) -> bool {
+    match disk_of(alloc, slot, segment) {
+        Ok(disk) => first_answer(alloc, disk).0 == wanted,
+        Err(_) => false,
+    }
 }
 
 #[test]
-fn lists_whose_numbers_are_spent(rt: HostRuntime) -> Result<(), Fail> {
-    let alloc = rt.alloc();
-    let last = 4_294_967_295;
-    // Next file, floor, first number of the segment, and what a push is answered.
-    let rows: [(u32, u64, u64, Result<Answer, OpenError>); 9] = [
-        (3, 0, 0, Ok(Ok(0))),
-        (4_294_967_294, 0, 0, Ok(Ok(0))),
-        (4_294_967_295, 0, 0, Ok(Ok(0))),
-        (2, 0, 0, breaks(30)),
-        (3, last - 1, last - 1, Ok(Ok(last - 1))),
-        (
-            3,
-            last,
-            last,
-            Ok(Err(PushError::StoreFull { pushes: last })),
-        ),
-        (3, last + 1, last + 1, breaks(34)),
-        (3, 1, 0, breaks(34)),
-        (3, 0, 1, breaks(34)),
-    ];
-    for (next_file, floor, first, wanted) in rows {
-        let slot = numbered(next_file, floor, first);
-        let disk = disk_of(alloc, &slot, &NO_RECORD)?;
-        assert!(rt;
-            first_answer(alloc, disk).0 == wanted,
-            "{next_file} {floor} {first}"
-        );
+fn lists_whose_numbers_are_spent(rt: HostRuntime) {
+    for (next_file, floor, first, wanted) in &LISTS {
+        let slot = numbered(*next_file, *floor, *first);
+        let same = is_answered(rt.alloc(), &slot, &NO_RECORD, *wanted);
+        assert!(&rt; same, "{next_file} {floor} {first}");
     }
-    Ok(())
 }
+
+// The answer of a store that has given all numbers.
+const FULL: Answer = Err(PushError::StoreFull {
+    pushes: 4_294_967_295,
+});
+
+// What a store is asked that has one number left, and what it is asked after it was opened again.
+static LAST: [Step; 2] = [Step::Empty(Ok(4_294_967_294)), Step::Empty(FULL)];
+
+static AFTER: [Step; 1] = [Step::Empty(FULL)];
 
 #[test]
 fn the_last_number_is_given_once(rt: HostRuntime) -> Result<(), Fail> {
-    let alloc = rt.alloc();
-    let last = 4_294_967_294;
-    let disk = disk_of(alloc, &numbered(3, last, last), &NO_RECORD)?;
-    let full = Err(PushError::StoreFull {
-        pushes: 4_294_967_295,
-    });
-    let (given, disk) = played(alloc, disk, &[Step::Empty(Ok(last)), Step::Empty(full)]);
-    assert!(rt; given && played(alloc, disk, &[Step::Empty(full)]).0);
+    let slot = numbered(3, 4_294_967_294, 4_294_967_294);
+    let disk = disk_of(rt.alloc(), &slot, &NO_RECORD)?;
+    let (given, disk) = played(rt.alloc(), disk, &LAST);
+    let (refused, _) = played(rt.alloc(), disk, &AFTER);
+    assert!(rt; given && refused);
     Ok(())
 }
 
@@ -95,43 +114,24 @@ fn gated(gates: [u8; 3]) -> [u8; 38] {
     ]
 }
 
-#[test]
-fn records_count_up_to_the_first_closed_gate(rt: HostRuntime) -> Result<(), Fail> {
-    let alloc = rt.alloc();
-    let rows: [([u8; 3], Result<Answer, OpenError>); 8] = [
-        ([1, 1, 0], Ok(Ok(2))),
-        ([1, 1, 2], Ok(Ok(2))),
-        ([1, 0, 0], Ok(Ok(1))),
-        ([1, 255, 1], Ok(Ok(1))),
-        ([0, 1, 0], Ok(Ok(0))),
-        ([2, 1, 1], Ok(Ok(0))),
-        ([1, 1, 1], Err(OpenError::NotStore { file: 2, at: 38 })),
-        ([3, 0, 1], Ok(Ok(0))),
-    ];
-    for (gates, wanted) in rows {
-        let disk = disk_of(alloc, &NEW_STORE, &gated(gates))?;
-        assert!(rt;
-            first_answer(alloc, disk).0 == wanted,
-            "{} {} {}",
-            gates[0],
-            gates[1],
-            gates[2]
-        );
-    }
-    Ok(())
-}
+// The gates, and what a push is answered.
+static GATES: [([u8; 3], Result<Answer, OpenError>); 8] = [
+    ([1, 1, 0], Ok(Ok(2))),
+    ([1, 1, 2], Ok(Ok(2))),
+    ([1, 0, 0], Ok(Ok(1))),
+    ([1, 255, 1], Ok(Ok(1))),
+    ([0, 1, 0], Ok(Ok(0))),
+    ([2, 1, 1], Ok(Ok(0))),
+    ([1, 1, 1], Err(OpenError::NotStore { file: 2, at: 38 })),
+    ([3, 0, 1], Ok(Ok(0))),
+];
 
 #[test]
-fn a_malformed_record_is_told_with_its_place(rt: HostRuntime) -> Result<(), Fail> {
-    let alloc = rt.alloc();
-    // A record of ten bytes, in which the count of runs is not in its shortest form.
-    let segment = [
-        1, 1, 10, 0, 0, 0, 0, 0, 0, 0, 0, 0, 0, 0, 0, 0, 0, 0, 0x80, 0, 0,
-    ];
-    let disk = disk_of(alloc, &NEW_STORE, &segment)?;
-    let wanted = Err(OpenError::NotStore { file: 2, at: 18 });
-    assert!(rt; first_answer(alloc, disk).0 == wanted);
-    Ok(())
+fn records_count_up_to_the_first_closed_gate(rt: HostRuntime) {
+    for (row, (gates, wanted)) in GATES.iter().enumerate() {
+        let same = is_answered(rt.alloc(), &NEW_STORE, &gated(*gates), *wanted);
+        assert!(&rt; same, "row {row}");
+    }
 }
 
 // A slot 0 that names file 3 as loose, and the slot 1 that is written without it.
@@ -152,16 +152,21 @@ fn loose_file(alloc: Global) -> Result<MemDisk, Failed> {
     Ok(disk)
 }
 
-#[test]
-fn loose_files_are_emptied(rt: HostRuntime) -> Result<(), Fail> {
-    let alloc = rt.alloc();
-    let (found, next) = counted(alloc, loose_file(alloc)?);
-    assert_eq!(rt; found, Some(1));
-    let mut disk = next;
-    assert_eq!(rt; disk.len(3)?, 0);
+// Whether file 3 is empty, and the slot 1 is the one that is written without it.
+fn has_no_loose(disk: &mut MemDisk) -> Result<bool, Failed> {
     let mut slot = [9u8; 64];
     let count = disk.read(1, 0, &mut slot)?;
-    assert!(rt; slot.get(..count) == Some(WITHOUT_LOOSE.as_slice()));
+    let len = disk.len(3)?;
+    Ok(len == 0 && slot.get(..count) == Some(WITHOUT_LOOSE.as_slice()))
+}
+
+#[test]
+fn loose_files_are_emptied(rt: HostRuntime) -> Result<(), Fail> {
+    let disk = loose_file(rt.alloc())?;
+    let (found, disk) = counted(rt.alloc(), disk);
+    let mut disk = disk;
+    let is_emptied = has_no_loose(&mut disk)?;
+    assert!(rt; found == Some(1) && is_emptied);
     Ok(())
 }
 
@@ -182,31 +187,27 @@ fn is_tidy(alloc: Global, disk: &MemDisk, pick: u64) -> Result<bool, Fail> {
     })
 }
 
-#[test]
-fn an_opening_that_is_stopped_keeps_what_is_stored(rt: HostRuntime) -> Result<(), Fail> {
-    let alloc = rt.alloc();
-    for calls in 0..34 {
-        let disk = stopped_opening(alloc, loose_file(alloc)?, calls);
-        assert_eq!(rt; disk.starved(), 0, "{calls} calls");
-        for pick in 0..8 {
-            assert!(rt; is_tidy(alloc, &disk, pick)?, "{calls} calls, pick {pick}");
-            let pushes = pushes_in(alloc, &disk, pick)?;
-            assert_eq!(rt; pushes, Some(1), "{calls} calls, pick {pick}");
-        }
+// Whether in this image the one record is found, and the loose file is none.
+fn is_kept(alloc: Global, disk: &MemDisk, pick: u64) -> Result<bool, Fail> {
+    let tidy = is_tidy(alloc, disk, pick)?;
+    Ok(tidy && pushes_in(alloc, disk, pick)? == Some(1))
+}
+
+// Whether that is so in eight images after so many calls of an opening.
+fn are_kept(alloc: Global, calls: u64) -> Result<bool, Fail> {
+    let disk = stopped_opening(alloc, loose_file(alloc)?, calls);
+    let mut same = disk.starved() == 0;
+    for pick in 0..8 {
+        same &= is_kept(alloc, &disk, pick)?;
     }
-    Ok(())
+    Ok(same)
 }
 
 #[test]
-fn a_new_store_that_is_stopped_is_empty(rt: HostRuntime) -> Result<(), Fail> {
-    let alloc = rt.alloc();
-    for calls in 0..16 {
-        let disk = stopped_opening(alloc, MemDisk::empty(alloc), calls);
-        assert_eq!(rt; disk.starved(), 0, "{calls} calls");
-        for pick in 0..8 {
-            let pushes = pushes_in(alloc, &disk, pick)?;
-            assert_eq!(rt; pushes, Some(0), "{calls} calls, pick {pick}");
-        }
+fn an_opening_that_is_stopped_keeps_what_is_stored(rt: HostRuntime) -> Result<(), Fail> {
+    for calls in 0..34 {
+        let are_kept = are_kept(rt.alloc(), calls)?;
+        assert!(rt; are_kept, "{calls} calls");
     }
     Ok(())
 }

@@ -1,12 +1,12 @@
 //! Stores over a disk in memory, played call by call: each is opened, played and closed in one function, and no other
 //! one holds a store.
 
-use crate::live::{another, are_at, both, many};
+use crate::live::{another, both, many};
 use disk_model::{Device, MemDisk};
 use span_types::{Batch, Calls, Memory, Spans};
 use std::alloc::Global;
 use store_core::{Core, OpenError};
-use store_state::{Look, LookPort, PushError};
+use store_state::{LookPort, PushError};
 
 // What a push answers.
 pub(crate) type Answer = Result<u64, PushError>;
@@ -25,13 +25,7 @@ pub(crate) enum Step {
     Held(u64),
     // A look at so many pushes.
     Pushes(u64),
-    // A look under this pin, which stays open, with so many of the rows that stand at `PLACES`.
-    Shows { pin: u64, as_of: u64, rows: usize },
 }
-
-// The places of the rows of several pushes, in the order in which they came: the first one has two spans, each other
-// one has one.
-const PLACES: [(u64, u32); 4] = [(0, 0), (0, 1), (1, 0), (2, 0)];
 
 fn push<P: LookPort>(port: &mut P, batch: Result<Batch, Memory>) -> Answer {
     match batch {
@@ -62,20 +56,6 @@ fn pushes_shown<P: LookPort>(port: &mut P) -> Option<u64> {
     }
 }
 
-fn has_rows(look: &Look, count: usize) -> bool {
-    match (look.rows.copy_rows(), PLACES.get(..count)) {
-        (Ok(rows), Some(places)) => are_at(&rows, places),
-        _ => false,
-    }
-}
-
-fn shows<P: LookPort>(port: &mut P, pin: u64, as_of: u64, rows: usize) -> bool {
-    match port.look() {
-        Ok(look) => look.pin.number == pin && look.as_of == as_of && has_rows(&look, rows),
-        Err(_) => false,
-    }
-}
-
 // Whether the step is answered so.
 fn play<P: LookPort>(alloc: Global, port: &mut P, step: Step) -> bool {
     match step {
@@ -85,7 +65,6 @@ fn play<P: LookPort>(alloc: Global, port: &mut P, step: Step) -> bool {
         Step::Full(count) => takes_full(alloc, port, count),
         Step::Held(rows) => port.held() == rows,
         Step::Pushes(count) => pushes_shown(port) == Some(count),
-        Step::Shows { pin, as_of, rows } => shows(port, pin, as_of, rows),
     }
 }
 
@@ -101,7 +80,6 @@ fn plays<P: LookPort>(alloc: Global, port: &mut P, steps: &[Step]) -> bool {
 // What goes wrong with a disk, counted in its calls from then on.
 #[derive(Clone, Copy)]
 pub(crate) enum Upset {
-    Nothing,
     // The call of that number fails, counted from 1.
     Fails(u64),
     // All calls after so many fail.
@@ -116,7 +94,6 @@ pub(crate) trait Upsets: Device {
 impl Upsets for MemDisk {
     fn upset(&mut self, alloc: Global, upset: Upset) -> bool {
         match upset {
-            Upset::Nothing => true,
             Upset::Stops(calls) => {
                 self.stop_after(calls);
                 true
@@ -143,27 +120,16 @@ impl CountsReads for MemDisk {
     }
 }
 
-// Opens a disk, upsets it, plays the steps and closes the store again: whether each step is answered so, and the disk.
-pub(crate) fn played_upset<D: Upsets>(
-    alloc: Global,
-    disk: D,
-    what: Upset,
-    steps: &[Step],
-) -> (bool, D) {
+// Opens a disk, plays the steps and closes the store again: whether each step is answered so, and the disk.
+pub(crate) fn played<D: Device>(alloc: Global, disk: D, steps: &[Step]) -> (bool, D) {
     match Core::open_store(alloc, disk, 7) {
         Ok(core) => {
             let mut core = core;
-            let ready = core.disk.upset(alloc, what);
             let same = plays(alloc, &mut core, steps);
-            (ready && same, core.close())
+            (same, core.close())
         }
         Err((_, disk)) => (false, disk),
     }
-}
-
-// The same where nothing goes wrong.
-pub(crate) fn played<D: Upsets>(alloc: Global, disk: D, steps: &[Step]) -> (bool, D) {
-    played_upset(alloc, disk, Upset::Nothing, steps)
 }
 
 // How many pushes a look at the store shows that a disk holds, and the disk.
@@ -192,7 +158,7 @@ pub(crate) fn first_answer<D: Device>(alloc: Global, disk: D) -> (Result<Answer,
 }
 
 // Whether a push gets this number, and is found when the store is opened again.
-fn goes_on<D: Upsets>(alloc: Global, disk: D, number: u64) -> bool {
+fn goes_on<D: Device>(alloc: Global, disk: D, number: u64) -> bool {
     let (answered, disk) = played(alloc, disk, &[Step::Another(Ok(number))]);
     let (found, _) = counted(alloc, disk);
     answered && found == Some(number.saturating_add(1))
