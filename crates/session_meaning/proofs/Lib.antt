@@ -27,6 +27,8 @@ mod Places
 pub mod OnDisk
 pub mod CoreSessions
 pub mod StoreSessions
+mod LowFiles
+mod BrokenPlaces
 pub mod FoundBytes
 pub mod EndLaws
 pub mod Unsure

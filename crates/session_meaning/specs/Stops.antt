@@ -3,7 +3,6 @@ use Rattle.std.specs.Prelude.{◌≡◌, ◌≢◌, ◌⊎◌, ⊤, ℕ, ◌≤�
 use Rattle.std.specs.List.{Contains}
 use Rattle.span_types.specs.First.{IsFirstOf}
 use Rattle.span_types.specs.declared.spans.Row.{Row}
-use Rattle.block_list.specs.Loading.{KeepsList}
 use Rattle.disk_model.specs.Images.{Image}
 use Rattle.disk_model.specs.Crash.{Reached}
 use Rattle.disk_model.specs.declared.disk.Device.{Ghosts}
@@ -84,22 +83,22 @@ pub record BeginsListed (image : Image) (u : State) (moment : ℕ) (first : Stat
 abbrev pub IsUnbroken : Image → Type 0
 IsUnbroken image = (file at : ℕ) → StoreBreaks image file at → ⊥
 
--- A store that is opened again is refused for its bytes only where one of these images breaks, first at that place of that file; and it is
--- open only where one of them breaks nowhere. Nothing that is asked is told of a block that it is none: an opening checks each block, and
--- what is listed since was written as one.
+-- A store that is opened again is refused for its bytes only where one of these images breaks, first at that place of that file; and if it
+-- is opened, one of them breaks nowhere: those with which the run opened it do, so this alone rules out no reply. Nothing that is asked is
+-- told of a block that it is none: an opening checks each block, and what is listed since was written as one.
 abbrev pub FitsBytes : (Image → Type 0) → Act → Reply → Type 0
 FitsBytes left (Reopen moment) (Refused (NotStore file at)) = (image : Image) × left image × StoreBreaks image file at
 FitsBytes left (Reopen moment) (Reopened entries) = (image : Image) × left image × IsUnbroken image
 FitsBytes left (Ask (Ok request)) reply = BlamesNoBlock reply
 FitsBytes left act reply = ⊤
 
--- the same of each line and its reply
-abbrev pub FitBytes : (Image → Type 0) → List Act → List Reply → Type 0
-FitBytes left [] replies = ⊤
-FitBytes left (act ∷ acts) [] = ⊤
-FitBytes left (act ∷ acts) (reply ∷ replies) = FitsBytes left act reply × FitBytes left acts replies
+-- A store that is closed for bytes that break at a place isn't opened, and if it is refused for its bytes again, then for that place.
+abbrev pub StaysBroken : ℕ × ℕ → Act → Reply → Type 0
+StaysBroken place (Reopen moment) (Refused (NotStore file at)) = (place.0 ≡ file) × (place.1 ≡ at)
+StaysBroken place (Reopen moment) (Reopened entries) = ⊥
+StaysBroken place act reply = ⊤
 
--- The place at which the bytes broke for which a store is closed, after a line: that of the last opening that was refused for them. One
+-- The place at which the bytes break for which a store is closed, after a line: that of the last opening that was refused for them. One
 -- that is refused for memory leaves all bytes alone; after one that goes well, or fails in a call of the disk, there is none.
 abbrev pub broken_at : Option (ℕ × ℕ) → Act → Reply → Option (ℕ × ℕ)
 broken_at before (Reopen moment) (Refused (NotStore file at)) = Some (file, at)
@@ -107,20 +106,28 @@ broken_at before (Reopen moment) (Refused Memory) = before
 broken_at before (Reopen moment) reply = None
 broken_at before act reply = before
 
+-- the same of each line and its reply, from the place before the first line on
+abbrev pub FitBytes : (Image → Type 0) → Option (ℕ × ℕ) → List Act → List Reply → Type 0
+FitBytes left before [] replies = ⊤
+FitBytes left before (act ∷ acts) [] = ⊤
+FitBytes left before (act ∷ acts) (reply ∷ replies) =
+    FitsBytes left act reply × IfSome before (λ place. StaysBroken place act reply) × FitBytes left (broken_at before act reply) acts replies
+
 abbrev pub broken_after : Option (ℕ × ℕ) → List Act → List Reply → Option (ℕ × ℕ)
 broken_after before [] replies = before
 broken_after before (act ∷ acts) [] = before
 broken_after before (act ∷ acts) (reply ∷ replies) = broken_after (broken_at before act reply) acts replies
 
--- Bytes that break first there are held still, but that a vacant slot of the list may have been cut to its first byte.
+-- the bytes break first there
 abbrev pub HoldsBroken : Image → ℕ × ℕ → Type 0
-HoldsBroken held place = (image : Image) × StoreBreaks image place.0 place.1 × KeepsList image held
+HoldsBroken held place = StoreBreaks held place.0 place.1
 
--- Over a disk that shows its bytes, whatever they are: what each opening again is refused for, a crash may have left since the run began,
--- and for each that goes well, bytes that break nowhere; no query and no compaction is told of a block that it is none; and if the store is
--- closed for its bytes at the end, the disk that is handed back holds them. An input may end after any line.
+-- Over a disk that shows its bytes, whatever they are: each opening again that is refused for its bytes is refused for a place where some
+-- break first that a crash may have left since the run began. From there on none goes well, and none is refused for another place, until one
+-- fails in a call of the disk; and if none does, the bytes of the disk that is handed back break first at that place. Of one that goes well
+-- otherwise nothing more is said. No query and no compaction is told of a block that it is none. An input may end after any line.
 pub record FindsBytes {D : Type 0} (g : Ghosts D) (disk later : D) (o : Outcome) : Type 0 where
-  pub fit : IsTrue (g.tells disk) → FitBytes (g.left_since later (g.moment disk)) o.acts o.replies
+  pub fit : IsTrue (g.tells disk) → FitBytes (g.left_since later (g.moment disk)) None o.acts o.replies
   pub closed : IsTrue (g.tells disk) → IfSome (broken_after None o.acts o.replies) (HoldsBroken (g.held later))
 
 -- ---- a run
