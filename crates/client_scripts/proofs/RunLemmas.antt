@@ -19,11 +19,11 @@ use Rattle.shared_store.proofs.Both.{same_calls, same_store}
 use Rattle.shared_store.proofs.Joins.{joined_among}
 use Rattle.client_scripts.specs.Scripts.{HasAnswered, IsScriptAnswered, reply_count}
 use Rattle.client_scripts.specs.Stages.{AllRun, HasRun, HaveRun, IsOneOf, MayRun, is_named}
-use Rattle.client_scripts.specs.Told.{AreTold, told_length}
+use Rattle.client_scripts.specs.Told.{AreTold, BlameNone, told_length}
 use Rattle.client_scripts.specs.declared.script.Answered.{Answered}
 use Rattle.client_scripts.proofs.NameLemmas.{apart_more, named_more, own_nobody, own_within}
 use Rattle.client_scripts.proofs.ScriptLemmas.{script_by_calls}
-use Rattle.client_scripts.proofs.ToldLemmas.{are_told_longer, grown_count, script_told}
+use Rattle.client_scripts.proofs.ToldLemmas.{are_told_longer, grown_count, script_blames, script_told}
 
 -- ---- one client
 
@@ -33,6 +33,12 @@ told_whole h least [] replies told = tt
 told_whole h least (item ∷ items) [] told = tt
 told_whole h least (Err why ∷ items) (r ∷ replies) told = told_whole h least items replies told
 told_whole h least (Ok asked ∷ items) (r ∷ replies) told = (told.0, told_whole h (max least (told_length r)) items replies told.1)
+
+blames_whole : (items : List Item) (replies : List Reply) → BlameNone (take (length replies) items) replies → BlameNone items replies
+blames_whole [] replies none = tt
+blames_whole (item ∷ items) [] none = tt
+blames_whole (Err why ∷ items) (r ∷ replies) none = blames_whole items replies none
+blames_whole (Ok asked ∷ items) (r ∷ replies) none = (none.0, blames_whole items replies none.1)
 
 module _ {C : Type 0} (m : Meaning C) where
   -- Over a seat that had made no call, a script was answered.
@@ -48,6 +54,7 @@ module _ {C : Type 0} (m : Meaning C) where
             told_whole (history_from from.history last.known.seen.entries) (count_of from.history) items answered.replies.items
             (script_told m key one from known s last (take (reply_count answered) items) answered.replies.items (count_of from.history) start
             (subst (λ (o : Option C). IsTrue (told_by m o)) start tells) (omega (arith, grew)) has.first);
+        whole = λ tells. blames_whole items answered.replies.items (script_blames m s last (take (reply_count answered) items) answered.replies.items tells has.first);
       }
 
   -- among more entries, of which none is its own
@@ -61,6 +68,7 @@ module _ {C : Type 0} (m : Meaning C) where
         ap (history_from from.history) longer ∙ history_append from.history es later ∙ from_is_grown h later in
         subst (λ (g : History). AreTold g (count_of from.history) items answered.replies.items) (sym grew)
         (are_told_longer h (added_by later) (count_of from.history) items answered.replies.items (run.told tells key is one from known));
+    whole = run.whole;
   }
 
   all_later : (start : Option C) (es later all : List Entry) (more : List ℕ) (scripts : List (List Item)) (answers : List Answered) (names : List (List ℕ))

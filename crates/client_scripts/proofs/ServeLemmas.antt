@@ -8,7 +8,7 @@ use Rattle.store_state.specs.Meaning.{Meaning, View}
 use Rattle.port_history.specs.Entries.{AreEntries, Entry, history_from, own}
 use Rattle.shared_store.specs.Rule.{IsFound, first_view}
 use Rattle.shared_store.specs.Seats.{Stand, told_by}
-use Rattle.client_scripts.specs.Served.{AllTold, HasServed}
+use Rattle.client_scripts.specs.Served.{AllBlameNone, AllTold, HasServed}
 use Rattle.client_scripts.specs.Stages.{AllRun, HaveRun, KnowsOneLength}
 use Rattle.client_scripts.specs.declared.script.Answered.{Answered}
 use Rattle.client_scripts.proofs.NameLemmas.{all_owned, all_told, client_of, history_under, made_under, served_under, under, whose_under}
@@ -30,6 +30,13 @@ module _ {C : Type 0} (m : Meaning C) where
   all_are_told start es (s ∷ scripts) (a ∷ answers) (ns ∷ names) run tells key is one from known =
       (run.0.told tells key is one from known, all_are_told start es scripts answers names run.1 tells key is one from known)
 
+  all_blame_none : (start : Option C) (es : List Entry) (scripts : List (List Item)) (answers : List Answered) (names : List (List ℕ)) → AllRun m start es scripts answers names
+      → IsTrue (told_by m start) → AllBlameNone scripts answers
+  all_blame_none start es [] answers names run tells = tt
+  all_blame_none start es (s ∷ scripts) [] names run tells = tt
+  all_blame_none start es (s ∷ scripts) (a ∷ answers) [] run tells = absurd run
+  all_blame_none start es (s ∷ scripts) (a ∷ answers) (ns ∷ names) run tells = (run.0.whole tells, all_blame_none start es scripts answers names run.1 tells)
+
   pub has_served : (key core : C) (v w : Stand C) (scripts : List (List Item)) (answers : List Answered) → KnowsOneLength m key → v.known ≡ first_view key
       → HaveRun m v scripts answers w → IsFound m key w.known core → (entries : List Entry) × HasServed m key entries scripts answers core
   has_served key core v w scripts answers one first run found =
@@ -50,5 +57,6 @@ module _ {C : Type 0} (m : Meaning C) where
           told = λ tells from known.
               subst (λ (h : History). AllTold h (count_of from.history) scripts answers) (sym (history_under f from.history es))
               (all_are_told v.known.start es scripts answers run.names run.each (subst (λ (o : Option C). IsTrue (told_by m o)) (sym start) tells) key start one from known);
+          whole = λ tells. all_blame_none v.known.start es scripts answers run.names run.each (subst (λ (o : Option C). IsTrue (told_by m o)) (sym start) tells);
         },
       )

@@ -40,7 +40,7 @@ use Rattle.shared_store.specs.Seats.{Stand, seat_meaning, told_by}
 use Rattle.shared_store.proofs.Both.{same_store, seen_goes_on}
 use Rattle.client_scripts.specs.Scripts.{AreAnsweredOver}
 use Rattle.client_scripts.specs.Stages.{KnowsOneLength}
-use Rattle.client_scripts.specs.Told.{AreTold, IsToldOf, TellsFrom, told_length}
+use Rattle.client_scripts.specs.Told.{AreTold, BlameNone, IsToldOf, TellsFrom, told_length}
 use Rattle.client_scripts.proofs.ScriptLemmas.{by_calls}
 
 -- ---- of a longer history
@@ -284,4 +284,19 @@ module _ {C : Type 0} (m : Meaning C) (key : C) (one : KnowsOneLength m key) (fr
         subst (λ (h : History). IsToldOf h least asked r) (sym (seen_grows now last later.0 later.1))
             (is_told_longer (seen_by now) (added_by later.0) least asked r here),
         script_told now last items replies (max least (told_length r)) (store.1 ∙ start) tells (omega (arith, low, grew, high)) are.2,
+      )
+
+-- Over a seat whose port showed its bytes as it was first shared, no reply to a request blames a block.
+module _ {C : Type 0} (m : Meaning C) where
+  pub script_blames : (s last : Stand C) (items : List Item) (replies : List Reply) → IsTrue (told_by m s.known.start)
+      → AreAnsweredOver (seat_meaning m) s items replies last → BlameNone items replies
+  script_blames s last [] replies tells are = tt
+  script_blames s last (item ∷ items) [] tells are = tt
+  script_blames s last (Err why ∷ items) (r ∷ replies) tells are =
+      script_blames are.0 last items replies (subst (λ (x : Stand C). IsTrue (told_by m x.known.start)) (sym are.1.1) tells) are.2
+  script_blames s last (Ok asked ∷ items) (r ∷ replies) tells are =
+      let replied = are.1 in
+      let store = same_store m s are.0 replied.calls replied.made in (
+        replied.whole tells,
+        script_blames are.0 last items replies (subst (λ (o : Option C). IsTrue (told_by m o)) (sym store.1) tells) are.2,
       )

@@ -15,7 +15,7 @@ use Rattle.shared_store.specs.Rule.{together}
 use Rattle.shared_store.specs.Seats.{Stand, told_by}
 use Rattle.shared_store.specs.Seen.{GoesOn, ShareNone}
 use Rattle.client_scripts.specs.Scripts.{AreAnsweredOver, IsScriptAnswered}
-use Rattle.client_scripts.specs.Told.{AreTold}
+use Rattle.client_scripts.specs.Told.{AreTold, BlameNone}
 use Rattle.client_scripts.specs.declared.script.Answered.{Answered}
 
 -- ---- one script
@@ -34,11 +34,12 @@ abbrev pub KnowsOneLength : {P : Type 0} → Meaning P → P → Type 0
 KnowsOneLength meaning port = (v w : View) → meaning.knows port v → meaning.knows port w → count_of v.history ≡ count_of w.history
 
 -- A client whose calls stand under these names: among the entries they are just those by which its script was answered so. It is told of
--- the history that the entries make of one that was known as the port was first shared.
+-- the history that the entries make of one that was known as the port was first shared, and of no block that it is none.
 pub record HasRun {C : Type 0} (m : Meaning C) (start : Option C) (entries : List Entry) (script : List Item) (answered : Answered) (names : List ℕ) : Type 0 where
   pub answered_by : IsScriptAnswered script answered (map call_of (own names entries))
   pub told : IsTrue (told_by m start) → (key : C) → start ≡ Some key → KnowsOneLength m key → (from : View) → m.knows key from
       → AreTold (history_from from.history entries) (count_of from.history) script answered.replies.items
+  pub whole : IsTrue (told_by m start) → BlameNone script answered.replies.items
 
 -- the same of several clients
 abbrev pub AllRun : {C : Type 0} → Meaning C → Option C → List Entry → List (List Item) → List Answered → List (List ℕ) → Type 0

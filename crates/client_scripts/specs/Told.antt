@@ -15,7 +15,7 @@ use Rattle.session_text.specs.declared.request.Request.TheVariants as request
 use Rattle.session_text.specs.Items.{Item}
 use Rattle.store_model.specs.History.{History, count_of, history_rows, up_to}
 use Rattle.store_state.specs.declared.rounds.Round.{Round}
-use Rattle.client_run.specs.Answers.{IsMetricsTold, IsSearchTold, asked_of, compact_reply, counted_of, trace_reply}
+use Rattle.client_run.specs.Answers.{BlamesNoBlock, IsMetricsTold, IsSearchTold, asked_of, compact_reply, counted_of, trace_reply}
 
 -- It is told of the history as it was at some length from `least` on.
 abbrev pub TellsFrom : {A : Type 0} → (ℕ → List Row → A → Type 0) → ℕ → History → A → Type 0
@@ -47,3 +47,10 @@ AreTold h least [] replies = Unit {0}
 AreTold h least (item ∷ items) [] = Unit {0}
 AreTold h least (Err why ∷ items) (r ∷ replies) = AreTold h least items replies
 AreTold h least (Ok asked ∷ items) (r ∷ replies) = IsToldOf h least asked r × AreTold h (max least (told_length r)) items replies
+
+-- No request that was answered is told of a block that it is none.
+abbrev pub BlameNone : List Item → List Reply → Type 0
+BlameNone [] replies = Unit {0}
+BlameNone (item ∷ items) [] = Unit {0}
+BlameNone (Err why ∷ items) (r ∷ replies) = BlameNone items replies
+BlameNone (Ok asked ∷ items) (r ∷ replies) = BlamesNoBlock r × BlameNone items replies

@@ -21,11 +21,12 @@ use Rattle.session_meaning.specs.Answering.{at_core}
 use Rattle.session_meaning.specs.Act.{Act}
 use Rattle.session_meaning.specs.At.{history_of}
 use Rattle.session_meaning.specs.Kept.{Kept, begun_with, kept_at, were_unsure}
-use Rattle.session_meaning.specs.Place.{history_at, opened_at}
+use Rattle.session_meaning.specs.Place.{ever_unsure, history_at, opened_at}
 use Rattle.session_meaning.specs.Pushes.{accepted_entries, accepted_entry}
-use Rattle.store_reopen.specs.Through.{StoodAmid}
+use Rattle.store_reopen.specs.Through.{Pending, StoodAmid}
 use Rattle.session_meaning.specs.Progress.{AreAnsweredOver}
 use Rattle.session_meaning.specs.Runs.{Edges, IsRunOf, Outcome}
+use Rattle.session_meaning.specs.ServedRuns.{RecoversServed, Served, last_place}
 use Rattle.session_meaning.specs.Session.{Session}
 use Rattle.session_meaning.specs.Stops.{Recovers, StandsWithin}
 use Rattle.session_meaning.proofs.CoreSessions.{since_means}
@@ -56,31 +57,35 @@ module _ {D : Type 0} (g : Ghosts D) where
   some_history disk later words o old new run recovers opened =
       (history_of o.first, kept_at o.last, (recovers.begins opened).stored, run_keeps disk later words o old new run recovers opened)
 
+  -- What keeps what was stored at first stands for the first history, if all that could be left at first did.
+  stood_at_first : (disk : D) (first last : History) (more : List Entry) (pending : List Pending) → last ≡ grown first more
+      → ((image : Image) → g.may_leave disk image → ImageStandsFor image first) → (image : Image) → Reached KeepsStored (g.may_leave disk) image
+      → StoodAmid (count_of first) last pending image
+  stood_at_first disk first last more pending grows at_first image was = inl (
+    count_of first,
+    omega arith,
+    no_shorter first last more grows,
+    subst (λ (h : History). ImageStandsFor image h) (sym (ap (up_to (count_of first)) grows ∙ as_before first more)) (was.2.stands first (at_first was.0 was.1)),
+  )
+
   -- Where all that could be left at first stood for the first history.
   pub kept_throughout : (disk later : D) (acts : List Act) (replies : List Reply) (first : History) (last : Kept) → KeepsTheHistory g disk later acts replies first last
       → ((image : Image) → g.may_leave disk image → ImageStandsFor image first) → (image : Image) → g.left_since later (g.moment disk) image
       → StoodAmid (count_of first) last.history (were_unsure last) image
   kept_throughout disk later acts replies first last kept at_first image since = elim (kept.any_moment image since) [
-    | inl was ↦ begun was
+    | inl was ↦ stood_at_first disk first last.history (added_all (begun_with first) acts replies) (were_unsure last)
+        (told_grows acts replies (begun_with first) last kept.told) at_first image was
     | inr stood ↦ stood
   ]
-    where
-      more : List Entry
-      more = added_all (begun_with first) acts replies
 
-      grows : last.history ≡ grown first more
-      grows = told_grows acts replies (begun_with first) last kept.told
-
-      front : up_to (count_of first) last.history ≡ first
-      front = ap (up_to (count_of first)) grows ∙ as_before first more
-
-      begun : Reached KeepsStored (g.may_leave disk) image → StoodAmid (count_of first) last.history (were_unsure last) image
-      begun was = inl (
-        count_of first,
-        omega arith,
-        no_shorter first last.history more grows,
-        subst (λ (h : History). ImageStandsFor image h) (sym front) (was.2.stands first (at_first was.0 was.1)),
-      )
+  -- the same of several clients
+  pub served_throughout : (disk later : D) (s : Served) (more : List Entry) → history_of s.last ≡ grown (history_of s.first) more → RecoversServed g disk later s
+      → ((image : Image) → g.may_leave disk image → ImageStandsFor image (history_of s.first)) → (image : Image) → g.left_since later (g.moment disk) image
+      → StoodAmid (count_of (history_of s.first)) (history_of s.last) (ever_unsure (last_place s)) image
+  served_throughout disk later s more grows recovers at_first image since = elim (recovers.any_moment image since) [
+    | inl was ↦ stood_at_first disk (history_of s.first) (history_of s.last) more (ever_unsure (last_place s)) grows at_first image was
+    | inr stood ↦ stood.1
+  ]
 
   -- ---- lines over a core
 

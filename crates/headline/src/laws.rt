@@ -24,7 +24,7 @@ ghost use Rattle.client_run.specs.Answers.{HasReplied};
 ghost use Rattle.session_meaning.specs.Act.{Act};
 ghost use Rattle.session_meaning.specs.At.{At, history_of};
 ghost use Rattle.session_meaning.specs.Done.{AreDone};
-ghost use Rattle.session_meaning.specs.Place.{Place};
+ghost use Rattle.session_meaning.specs.Place.{Place, ever_unsure};
 ghost use Rattle.session_meaning.specs.Kept.{Kept, begun_with, kept_after_all, kept_at, were_unsure};
 ghost use Rattle.session_meaning.specs.Progress.{AreAnsweredOver};
 ghost use Rattle.session_meaning.specs.Pushes.{accepted_entries, accepted_entry, known_pushes};
@@ -81,6 +81,15 @@ pub fn the_headline_of_clients<D: Device>(disk: &D, later: &D)
         → ImageStandsFor (D.held disk.now) (history_of s.first)
         × ((image : Image) → D.may_leave later.now image
         → MayStandFor (history_of s.last) (last_place s).unsure image) }
+    // Where all that a crash could leave at first stood for the first history, all that one left at any moment stands
+    // for it with the first few accepted pushes, and it may be with the one that was first answered `disk-fault`.
+    ensures at_any_moment { (told : Bool) (words : List (List ℕ)) (s : Served) (old new : Edges)
+        → ServesAs told words s old new → RecoversServed D.Device.own disk.now later.now s
+        → ((image : Image) → D.may_leave disk.now image
+        → ImageStandsFor image (history_of s.first))
+        → (image : Image) → D.left_since later.now (D.moment disk.now) image
+        → StoodAmid (count_of (history_of s.first)) (history_of s.last)
+        (ever_unsure (last_place s)) image }
 {
     what_was_seen_counts();
     clients_make_the_history();

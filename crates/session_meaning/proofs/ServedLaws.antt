@@ -189,7 +189,9 @@ found_at h least asked a (n, over, under, tells) =
 
 search_told : (h : History) (least : ℕ) (s : Search) (answer : Result SearchAnswer QueryError) (r : Reply) → IsSearchTold (asked_of s) answer r
     → Sound (TellsFrom (IsSearchAnswer (asked_of s)) least h) answer → TellsFrontFrom h least (request.Search s) r
-search_told h least s (Ok a) r (inl is) sound = subst (λ (x : Reply). TellsFrontFrom h least (request.Search s) x) (sym is) (found_at h least (asked_of s) a sound)
+search_told h least s (Ok a) r (inl is) sound =
+    let found = found_at h least (asked_of s) a sound in
+    subst (λ (x : Reply). TellsFrontFrom h least (request.Search s) x) (sym is) (found.0, found.1, refl, found.2)
 search_told h least s (Ok a) r (inr is) sound = subst (λ (x : Reply). TellsFrontFrom h least (request.Search s) x) (sym is) tt
 search_told h least s (Err e) r is sound = subst (λ (x : Reply). TellsFrontFrom h least (request.Search s) x) (sym is) tt
 

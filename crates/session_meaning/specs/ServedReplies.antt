@@ -6,8 +6,9 @@ use Rattle.client_scripts.specs.Numbers.{AreNumbered}
 use Rattle.client_scripts.specs.Told.{told_length}
 use Rattle.client_scripts.specs.declared.script.Answered.{Answered}
 use Rattle.port_history.specs.Entries.{Entry, added_by, call_of, own}
+use Rattle.search_text.specs.Fields.{printed_fields}
 use Rattle.session_text.specs.declared.reply.Reply.{Reply}
-use Rattle.session_text.specs.declared.reply.Reply.TheVariants.{Measured, Searched, Traced}
+use Rattle.session_text.specs.declared.reply.Reply.TheVariants.{Measured, Refused, Searched, Traced}
 use Rattle.session_text.specs.declared.request.Request.{Request}
 use Rattle.session_text.specs.declared.request.Request.TheVariants as request
 use Rattle.session_text.specs.Items.{Item}
@@ -21,6 +22,7 @@ use Rattle.store_model.specs.State.{Compaction, block_rows}
 use Rattle.store_model.specs.Step.{Machine, with_state}
 use Rattle.store_state.specs.Made.{Call}
 use Rattle.traceql_metrics.specs.Series.{AreSeries}
+use Rattle.traceql_syntax.specs.Trees.{query_tree}
 use Rattle.session_meaning.specs.Answering.{AreItemsAnswered}
 use Rattle.session_meaning.specs.At.{At}
 use Rattle.session_meaning.specs.Pushes.{HasRoomNow, accepted_entries}
@@ -93,14 +95,22 @@ abbrev pub AskNothing : List (List Item) → Type 0
 AskNothing [] = ⊤
 AskNothing (script ∷ scripts) = (script ≡ []) × AskNothing scripts
 
--- A query that is answered tells of a front of this history: of as many entries as its reply says, and at least of so many.
+-- A query tells of a front of this history, of as many entries as its reply says, and at least of so many; or it is refused. It is told
+-- nothing else.
 abbrev pub TellsFrontFrom : History → ℕ → Request → Reply → Type 0
 TellsFrontFrom h least (request.Trace id) (Traced as_of rows) = (least ≤ as_of) × (as_of ≤ count_of h) × IsTraceIn id (up_to as_of h) rows
+TellsFrontFrom h least (request.Trace id) (Refused why) = ⊤
+TellsFrontFrom h least (request.Trace id) _ = ⊥
 TellsFrontFrom h least (request.Search s) (Searched as_of fields results) =
-    (least ≤ as_of) × (as_of ≤ count_of h) × IsFound (asked_of s) (up_to as_of h) results
+    (least ≤ as_of) × (as_of ≤ count_of h) × (fields ≡ printed_fields (query_tree s.checked.query))
+    × IsFound (asked_of s) (up_to as_of h) results
+TellsFrontFrom h least (request.Search s) (Refused why) = ⊤
+TellsFrontFrom h least (request.Search s) _ = ⊥
 TellsFrontFrom h least (request.Metrics m) (Measured as_of series) =
     (least ≤ as_of) × (as_of ≤ count_of h)
     × ((results : List TraceResult) × IsFound (counted_of m) (up_to as_of h) results × AreSeries results m.start m.end m.step m.rate series)
+TellsFrontFrom h least (request.Metrics m) (Refused why) = ⊤
+TellsFrontFrom h least (request.Metrics m) _ = ⊥
 TellsFrontFrom h least _ _ = ⊤
 
 -- Each query of a client does: of all that it was told of before, by queries and by the numbers of its pushes.

@@ -63,6 +63,7 @@ none_served meaning old new same = record {
   whose = λ e c. absurd (omega (arith, c.1));
   served = refl;
   told = λ tells v knows. tt;
+  whole = λ tells. tt;
 }
 
 -- A run that stopped in reading.

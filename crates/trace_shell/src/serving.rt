@@ -5,6 +5,7 @@
 ghost use Rattle.std.specs.Prelude.{true, false, ◌≡◌, ◌≢◌, ◌⊎◌, ◌≤◌, ◌++◌, ◌∷◌, List, Option, [], IfOk, IfSome, IsTrue, map, string_bytes, ℕ};
 ghost use Rattle.std.specs.List.{list_any};
 ghost use Rattle.client_scripts.specs.declared.script.Answered.{Answered as answered};
+ghost use Rattle.client_scripts.specs.Served.{AllBlameNone};
 ghost use Rattle.command_words.specs.Commands.{Serve};
 ghost use Rattle.command_words.specs.Numbers.{word_faults};
 ghost use Rattle.command_words.specs.Spelling.{begins_to_serve};
@@ -71,7 +72,8 @@ pub(crate) fn serve_words<
         × RefusesOnly P.makes patterns.old patterns.new s.refused
         × ServesAs false (map string_bytes words.now) s
         (edges S.left S.faults K.taken K.faults C.moments D.Device.own source.old sink.old clock.old disk)
-        (edges S.left S.faults K.taken K.faults C.moments D.Device.own source.new sink.new clock.new result.1)) }
+        (edges S.left S.faults K.taken K.faults C.moments D.Device.own source.new sink.new clock.new result.1)
+        × (IsTrue (D.tells disk) → AllBlameNone s.scripts s.answers)) }
     ensures recovers { IsTrue (D.tells disk) → IsSoundImage (D.held disk)
         → ((o : Outcome) × (o.ending ≡ result.0)
         × RefusesOnly P.makes patterns.old patterns.new o.refused
@@ -140,7 +142,8 @@ fn serve_on_store<
         × RefusesOnly P.makes patterns.old patterns.new s.refused
         × IsServedRun false clients rounds s
         (edges S.left S.faults K.taken K.faults C.moments D.Device.own source.old sink.old clock.old disk)
-        (edges S.left S.faults K.taken K.faults C.moments D.Device.own source.new sink.new clock.new result.1)) }
+        (edges S.left S.faults K.taken K.faults C.moments D.Device.own source.new sink.new clock.new result.1)
+        × (IsTrue (D.tells disk) → AllBlameNone s.scripts s.answers)) }
     ensures recovers { IsTrue (D.tells disk) → IsSoundImage (D.held disk)
         → ((o : Outcome) × (o.ending ≡ result.0)
         × RefusesOnly P.makes patterns.old patterns.new o.refused

@@ -3,6 +3,7 @@
 
 ghost use Rattle.std.specs.Prelude.{true, false, ◌≡◌, ◌≢◌, ◌⊎◌, List, [], map, string_bytes, ℕ, IsTrue};
 ghost use Rattle.std.specs.Process.{exit_status};
+ghost use Rattle.client_scripts.specs.Served.{AllBlameNone};
 ghost use Rattle.command_words.specs.Commands.{Command, Spells};
 ghost use Rattle.command_words.specs.Numbers.{word_faults};
 ghost use Rattle.command_words.specs.Spelling.{begins_to_serve};
@@ -139,10 +140,10 @@ pub fn run<
     gate: &G,
 ) -> Ended<D>
     // What the words ask was done, the maker refused what the outcome says, and the status tells how it ended: clients
-    // were served, or one was. Queries tell of all rows outside of blocks; what they find in blocks isn't said. For one
-    // client, if the disk shows its bytes, whatever they are, an opening again is refused for bytes that break and that a
-    // crash may have left since the run began, and if the store is closed for them at the end, the disk that is handed
-    // back holds them.
+    // were served, or one was. Queries tell of all rows outside of blocks; what they find in blocks isn't said. If the
+    // disk shows its bytes, whatever they are, no request of several clients is told of a block that it is none. Then,
+    // for one client, an opening again is refused for bytes that break and that a crash may have left since the run
+    // began, and if the store is closed for them at the end, the disk that is handed back holds them.
     ensures ran { ((o : Outcome) × RefusesOnly P.makes patterns.old patterns.new o.refused
         × IsRunOf false (map string_bytes words.now) o
         (edges S.left S.faults K.taken K.faults C.moments D.Device.own source.old sink.old clock.old disk)
@@ -152,7 +153,8 @@ pub fn run<
         × ServesAs false (map string_bytes words.now) s
         (edges S.left S.faults K.taken K.faults C.moments D.Device.own source.old sink.old clock.old disk)
         (edges S.left S.faults K.taken K.faults C.moments D.Device.own source.new sink.new clock.new result.disk)
-        × (result.status ≡ status_of s.ending)) }
+        × (result.status ≡ status_of s.ending)
+        × (IsTrue (D.tells disk) → AllBlameNone s.scripts s.answers)) }
     // Over a disk whose bytes are shown and are a store's: it was done from what they store on, queries tell of all
     // that was pushed, wherever it lies, and what is stored as the disk is handed back, also if each of its calls failed
     // from some on, holds every push that was accepted by then; at any other moment it is a front of that. If the store

@@ -1,3 +1,4 @@
+use Rattle.headline.proofs.Kept.{served_throughout}
 use Rattle.headline.proofs.laws.the_headline_of_clients.Goals as goal
 
 pub returns-clause-answers : goal.returns-clause-answers
@@ -10,3 +11,8 @@ returns-clause-pushes g c told words s old new serves =
 
 pub returns-clause-stored : goal.returns-clause-stored
 returns-clause-stored g c s recovers = (recovers.begins.stored, recovers.returned)
+
+pub returns-clause-at_any_moment : goal.returns-clause-at_any_moment
+returns-clause-at_any_moment g c told words s old new serves recovers =
+    let theirs = c.clients_make_the_history.ensures told s.first s.last s.scripts s.answers s.entries serves.3.ran in
+    served_throughout g.D.Device c.args.disk.now c.args.later.now s _ theirs.grows recovers

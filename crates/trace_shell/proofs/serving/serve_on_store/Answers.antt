@@ -40,6 +40,7 @@ returns-in-Ok-clause-ran g c =
       is_served d disk moment c.args.clients c.args.rounds core later begins.0 e came.0 begins.1 false old new come run.0 run.2
           refl refl (sym (ap d.faults c.close.ensures)) c.now-moment.ensures.moment c.in-Ok.ensures.unbroken (c.in-Ok.ensures.calls.quiet tt)
           (serving_cause e come.answers old new come.ends c.serve-ending.ensures.write_fault c.serve-ending.ensures.read_fault c.serve-ending.ensures.spent),
+      λ told. come.served.whole (subst IsTrue (sym c.in-Ok.ensures.calls.telling) told),
     )
 
 pub returns-in-Ok-clause-recovers : goal.returns-in-Ok-clause-recovers

@@ -33,7 +33,7 @@ returns-clause-ran g c =
     let old : Edges = edges g.S.Source.left g.S.Source.faults g.K.Sink.taken g.K.Sink.faults g.C.Clock.moments d c.args.source.now c.args.sink.now c.args.clock.now c.args.disk in
     let new : Edges = edges g.S.Source.left g.S.Source.faults g.K.Sink.taken g.K.Sink.faults g.C.Clock.moments d c.serve_on_store.new.source c.serve_on_store.new.sink c.serve_on_store.new.clock c.serve_on_store.result.1 in
     ⊎_elim (λ o. inl (o.0, o.1, o.2, is_run false words (Serve c.in-Serve.clients c.in-Serve.rounds) o.0 old new asks o.3, o.4))
-    (λ s. inr (s.0, s.1, s.2, (c.in-Serve.clients, c.in-Serve.rounds, asks, s.3)))
+    (λ s. inr (s.0, s.1, s.2, (c.in-Serve.clients, c.in-Serve.rounds, asks, s.3), s.4))
     c.serve_on_store.ensures.ran
 
 pub returns-clause-recovers : goal.returns-clause-recovers

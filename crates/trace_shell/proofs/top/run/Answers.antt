@@ -12,7 +12,7 @@ returns-then-not-asks_to_serve-clause-recovers g c = λ told sound. inl (c.run_a
 
 pub returns-clause-ran : goal.returns-clause-ran
 returns-clause-ran g c =
-    ⊎_elim (λ o. inl (o.0, o.2, o.3, c.status.ensures ∙ ap status_of (sym o.1), o.4)) (λ s. inr (s.0, s.2, s.3, c.status.ensures ∙ ap status_of (sym s.1))) c.serve_words-ending.ensures.ran
+    ⊎_elim (λ o. inl (o.0, o.2, o.3, c.status.ensures ∙ ap status_of (sym o.1), o.4)) (λ s. inr (s.0, s.2, s.3, c.status.ensures ∙ ap status_of (sym s.1), s.4)) c.serve_words-ending.ensures.ran
 
 pub returns-clause-recovers : goal.returns-clause-recovers
 returns-clause-recovers g c = λ told sound.
