@@ -1,5 +1,5 @@
-"""Tests of what tools/hostile, tools/faults and tools/growth judge by, and of the first two over a program that stands in: one that
-is right passes, and each wrong one is found."""
+"""Tests of what tools/hostile, tools/faults, tools/growth and tools/served judge by, and of all but the third over a program that stands
+in: one that is right passes, and each wrong one is found."""
 from __future__ import annotations
 
 import os
@@ -113,6 +113,29 @@ class Parts(unittest.TestCase):
         log = ['7 openat(AT_FDCWD</>, "/lib/libc.so") = 3', '7 openat(AT_FDCWD</>, "/room/copy/2.dat", O_RDWR) = 4</room/copy/2.dat>',
                "7 pread64(3</lib/libc.so>, 4) = 4", "fsync(5</room>) = 0", "7 pread64(4</room/copy/2.dat>, 4) = 4", "7 +++ exited with 0 +++"]
         self.assertEqual(script("faults").calls_in(log, "/room"), {"openat": [2], "fsync": [1], "pread64": [2]})
+
+
+class Histories(unittest.TestCase):
+    def test_jobs_overlap(self) -> None:
+        """A flush is busy only beside another one, and `nothing` only if nothing was cut since the last."""
+        of = script("served")
+        key = ("0" * 31 + "1", "0" * 15 + "1")
+        pushes = of.Pushes({0: [(key, "a"), (key, "b")]})
+        push = ("push {..}", "ok push 0 accepted=2 rejected=0 skipped=0")
+        cut, busy, full, none = ("cutall", "ok cutall moved=2"), ("flush", "refused busy job=0"), ("flush", "ok flush rows=1"), ("flush", "ok flush nothing")
+        for asked in ([[push, cut, full], [busy]], [[push, cut, full, none], [none]], [[push], [cut], [full]]):
+            self.assertIsNone(of.has_history(pushes, asked), asked)
+        for asked in ([[push, cut, full, busy], [none]], [[push, cut, full], [full]], [[push, cut, none]], [[cut, push]], [[push, ("flush", "ok flush rows=2")]]):
+            self.assertIsNotNone(of.has_history(pushes, asked), asked)
+
+    def test_programs(self) -> None:
+        """A program that is right has a history in each run; each wrong one is found."""
+        stub = os.path.join(HERE, "serve_stub.py")
+        for wrong in ("", "younger", "late", "twice", "again", "early", "lost"):
+            ran = subprocess.run([os.path.join(TOOLS, "served"), "--runs", "8", stub], capture_output=True, text=True, timeout=300,
+                                 env={**os.environ, "SERVE_WRONG": wrong})
+            last = ran.stdout.splitlines()[-1]
+            self.assertEqual((ran.returncode, last == "8 passed, 0 failed"), (1 if wrong else 0, not wrong), f"{wrong}: {ran.stdout[-500:]}{ran.stderr}")
 
 
 class Scripts(unittest.TestCase):
