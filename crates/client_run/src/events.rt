@@ -16,7 +16,7 @@ use crate::taken::{end_look, look_with};
 use crate::tasks::{Tasks, no_steps};
 use compactor::CompactTask;
 use flusher::FlushTask;
-use span_types::{Batch, Bytes, Memory, TryCopy};
+use span_types::{Batch, Bytes, Memory, Row, Rows, TryCopy};
 use std::alloc::Global;
 use store_state::{FlushPort, Look, LookPort, Port, Step};
 
@@ -162,10 +162,25 @@ fn take_look<P: LookPort>(port: &mut P, looks: &mut Vec<Option<Look>>) -> Result
     };
     let seen = Seen {
         as_of: look.as_of,
-        rows: look.rows.copy_rows()?,
+        rows: copies(*looks.allocator(), &look)?,
     };
     looks.push(Some(look))?;
     Ok(EventReply::Looked(Ok(seen)))
+}
+
+// Copies of the rows of a look.
+fn copies(alloc: Global, look: &Look) -> Result<Rows, Memory>
+    ensures { IfOk result (λ rows. rows ≡ look.now.rows) }
+{
+    let mut rows = Vec::new(alloc);
+    let refs = look.rows.refs(alloc)?;
+    let all = refs.as_slice();
+    for row in all {
+        let place = row.place();
+        let span = row.span().copy()?;
+        rows.push(Row { place, span })?;
+    }
+    Ok(Rows::of(rows))
 }
 
 // Reads a page of a block that the pin of a look names, where the look is open and its pin names it.

@@ -6,5 +6,4 @@ pub mod LiveRows
 pub mod Least
 pub mod Ranges
 pub mod Kept
-pub mod Chains
 pub mod Spots

@@ -1,6 +1,6 @@
 pub mod Rows
 pub mod ByTrace
 pub mod Parts
-pub mod Index
+pub mod Order
 pub mod Whole
 pub mod Going

@@ -17,14 +17,11 @@ pub record LiveParts : Type 0 where
   -- how many more pushes fit without memory, and how many more rows may be held
   pub spare : ℕ
   pub room : ℕ
-  -- how many more rows get a place in the index of traces without memory
-  pub places : ℕ
 
 -- room for one push of so many rows
 pub record HasRoom (parts : LiveParts) (rows : ℕ) : Type 0 where
   pub spare : 1 ≤ parts.spare
   pub room : rows ≤ parts.room
-  pub places : rows ≤ parts.places
 
 -- rows that remained live after a cut
 abbrev pub live_of : List Entry → List LiveRow

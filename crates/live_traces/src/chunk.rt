@@ -1,12 +1,11 @@
 //! Chunks: the spans of one push, which looks and flushes share, and single rows of them.
 
-ghost use Rattle.std.specs.Prelude.{◌≡◌, ◌<◌, ◌++◌, Some, IfOk, IfErr, OnOk, length, slice_get};
+ghost use Rattle.std.specs.Prelude.{◌≡◌, ◌<◌, ◌++◌, Some, IfOk, IfErr, OnOk, length};
 ghost use Rattle.rows_by_trace.specs.Traces.{rows_of_trace};
 ghost use Rattle.live_traces.specs.Rows.{chunk_rows, row_of};
 
 use crate::group::{OfTrace, group_of};
-use crate::index::Spot;
-use crate::order::order_of;
+use crate::order::{Spot, order_of};
 use crate::runs::HasRows;
 use row_refs::RowRef;
 use span_types::{Batch, Memory, Place, Row, Span, TraceId, TryCopy};
@@ -30,7 +29,7 @@ pub struct Chunk {
 
 impl Model for Chunk {
     ghost use Rattle.live_traces.specs.Rows.{ChunkParts, chunk_rows};
-    ghost use Rattle.live_traces.specs.Index.{IsOrderOf};
+    ghost use Rattle.live_traces.specs.Order.{IsOrderOf};
 
     ghost Value = { ChunkParts };
 
@@ -130,15 +129,6 @@ impl HasRows for Chunk {
 
     ghost listed = { chunk_rows };
 
-    fn copy_rows(&self, rows: &mut Vec<Row>) -> Result<(), Memory> {
-        let count = self.len();
-        for at in 0..count {
-            let row = self.copy_row(at)?;
-            rows.push(row)?;
-        }
-        Ok(())
-    }
-
     fn lend_rows<'a>(&'a self, rows: &mut Vec<RowRef<'a>>) -> Result<(), Memory> {
         let count = self.len();
         for at in 0..count {
@@ -160,21 +150,11 @@ impl HasRows for Chunk {
         let body: &Body = &self.body;
         let group = group_of(body.order.as_slice(), trace);
         for spot in group {
-            let row = copy_pushed(self, spot.at)?;
+            let row = self.copy_row(spot.at)?;
             rows.push(row)?;
         }
         Ok(())
     }
-}
-
-// A copy of the row at a position of a push.
-pub(crate) fn copy_pushed(chunk: &Chunk, at: usize) -> Result<Row, Memory>
-    requires { at < length chunk.now.spans }
-    ensures { IfOk result (λ row. slice_get (chunk_rows chunk.now) at ≡ Some row) }
-{
-    prove!(at < chunk.len() as usize);
-    let copy = chunk.copy_row(at as u32)?;
-    Ok(copy)
 }
 
 impl TryCopy for Chunk {

@@ -19,6 +19,7 @@ use crate::group::OfTrace;
 use crate::live::{Arrival, Entry};
 use crate::rest::Rest;
 use crate::run::Run;
+use crate::runs::HasRows;
 use span_types::{Memory, TraceId, TryCopy};
 use std::alloc::Global;
 use std::cmp::Ordering;
@@ -75,11 +76,7 @@ fn run_of(alloc: Global, chunk: &Chunk) -> Result<Rest, Memory>
     ensures { IfOk result (λ run. run ≡ chunk_rows chunk.now) }
 {
     let mut rows = Vec::new(alloc);
-    let count = chunk.len();
-    for at in 0..count {
-        let row = chunk.row(at)?;
-        rows.push(row)?;
-    }
+    chunk.share_rows(&mut rows)?;
     let run = Rest::of(alloc, rows)?;
     Ok(run)
 }

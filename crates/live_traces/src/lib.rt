@@ -6,9 +6,7 @@
 mod chunk;
 mod cut;
 mod group;
-mod index;
 mod live;
-mod lookup;
 mod order;
 mod rest;
 mod run;

@@ -6,18 +6,15 @@ ghost use Rattle.store_model.specs.History.{batch_rows};
 ghost use Rattle.store_model.specs.State.{live_rows};
 ghost use Rattle.store_model.specs.Cut.{is_idle, AreMoved};
 ghost use Rattle.store_model.specs.After.{arrived};
-ghost use Rattle.rows_by_trace.specs.Traces.{rows_of_trace};
 ghost use Rattle.live_traces.specs.Rows.{chunk_rows, push_rows, run_rows};
 ghost use Rattle.live_traces.specs.Parts.{HasRoom, arrivals_of, goes, least_number, least_with, live_of, lower};
 
 use crate::chunk::{Chunk, SharedRow};
 use crate::cut::{add_run, in_order, parts};
-use crate::index::TraceIndex;
-use crate::lookup::{add_rows_of, index_of, note_push};
 use crate::rest::Rest;
 use crate::run::Run;
-use crate::runs::{Runs, add_those_of};
-use span_types::{Batch, Memory, Rows, TraceId, TryCopy};
+use crate::runs::Runs;
+use span_types::{Batch, Memory, TryCopy};
 use std::alloc::Global;
 use std::marker::Model;
 use std::mem;
@@ -50,16 +47,13 @@ impl Model for Ready {
     ghost view = { λ r. r.chunk };
 }
 
-/// Rows that are in no block yet: live ones, those of the head, and those of an open flush. Rows are shared and never copied
-/// but where a call gives a list of rows.
+/// Rows that are in no block yet: live ones, those of the head, and those of an open flush. Rows are shared and never copied.
 #[derive(Drop)]
 pub struct Live {
     entries: Vec<Entry>,
     arrivals: Vec<Arrival>,
     // How many rows are live.
     count: usize,
-    // Where the live rows stand.
-    index: TraceIndex,
     // The runs of the open flush, and behind them those of the head.
     kept: Vec<Run>,
     // How many rows they have.
@@ -78,9 +72,9 @@ impl Model for Live {
 
     ghost Value = { LiveParts };
 
-    ghost view = { λ l. record { live = live_of l.entries.items ++ arrivals_of l.arrivals.items; head = run_rows (drop l.flushing l.kept.items); flushing = run_rows (take l.flushing l.kept.items); spare = vec_capacity l.arrivals - vec_len l.arrivals; room = 18446744073709551615 - (l.count + l.kept_rows); places = l.index.places } };
+    ghost view = { λ l. record { live = live_of l.entries.items ++ arrivals_of l.arrivals.items; head = run_rows (drop l.flushing l.kept.items); flushing = run_rows (take l.flushing l.kept.items); spare = vec_capacity l.arrivals - vec_len l.arrivals; room = 18446744073709551615 - (l.count + l.kept_rows) } };
 
-    ghost invariant = { λ l. AreWhole l.entries.items l.arrivals.items l.count l.kept.items l.kept_rows l.flushing l.flush_rows l.index.spots };
+    ghost invariant = { λ l. AreWhole l.entries.items l.arrivals.items l.count l.kept.items l.kept_rows l.flushing l.flush_rows };
 }
 
 impl Live {
@@ -90,13 +84,11 @@ impl Live {
     {
         let entries = Vec::new(alloc);
         let arrivals = Vec::new(alloc);
-        let index = TraceIndex::new(alloc);
         let kept = Vec::new(alloc);
         Live {
             entries,
             arrivals,
             count: 0,
-            index,
             kept,
             kept_rows: 0,
             flushing: 0,
@@ -121,10 +113,6 @@ impl Live {
             Ok(()) => {}
             Err(_) => return Err((Memory, batch)),
         }
-        match self.index.reserve(batch.spans.len()) {
-            Ok(()) => {}
-            Err(_) => return Err((Memory, batch)),
-        }
         match Chunk::of(alloc, number, batch) {
             Ok(chunk) => Ok(Ready { chunk }),
             Err(batch) => Err((Memory, batch)),
@@ -141,9 +129,6 @@ impl Live {
     {
         let chunk = ready.chunk;
         let more = chunk.len() as usize;
-        let entries = self.entries.len();
-        let arrivals = self.arrivals.len();
-        note_push(&mut self.index, &chunk, entries + arrivals);
         self.arrivals.push_reserved(Arrival { chunk, moment });
         self.count += more;
     }
@@ -253,11 +238,9 @@ impl Live {
         let alloc = *self.kept.allocator();
         let entries = self.entries.as_slice();
         let (moved, stay) = parts(alloc, entries, self.arrivals.as_slice(), idle)?;
-        let anew = index_of(alloc, stay.as_slice())?;
         let moved = in_order(moved);
         let count = moved.len();
         add_run(alloc, &mut self.kept, moved)?;
-        self.index = anew;
         self.entries = stay;
         self.arrivals.truncate(0);
         self.count -= count;
@@ -275,34 +258,6 @@ impl Live {
         let rests = rests_of(alloc, self.entries.as_slice())?;
         let pushes = pushes_of(alloc, self.arrivals.as_slice())?;
         Ok(Runs::of(runs, rests, pushes))
-    }
-
-    /// Copies of all rows.
-    pub fn rows(&self) -> Result<Rows, Memory>
-        ensures { IfOk result
-            (λ rows. rows ≡ self.now.flushing ++ self.now.head ++ live_rows self.now.live) }
-    {
-        let rows = self.runs()?.copy_rows()?;
-        Ok(rows)
-    }
-
-    /// Copies of the rows of a trace. It costs their number, and of each run of the head and the flush the logarithm of its
-    /// length.
-    pub fn rows_of(&self, trace: TraceId) -> Result<Rows, Memory>
-        ensures { IfOk result (λ rows. rows
-            ≡ rows_of_trace trace (self.now.flushing ++ self.now.head ++ live_rows self.now.live)) }
-    {
-        let mut rows = Vec::new(*self.kept.allocator());
-        add_those_of(self.kept.as_slice(), trace, &mut rows)?;
-        let entries = self.entries.as_slice();
-        add_rows_of(
-            &self.index,
-            entries,
-            self.arrivals.as_slice(),
-            trace,
-            &mut rows,
-        )?;
-        Ok(Rows::of(rows))
     }
 
     /// The least number of a push among the rows of the head and the live ones; none where there are none.

@@ -3,7 +3,7 @@
 ghost use Rattle.std.specs.Prelude.{◌≡◌, Some, IfOk};
 ghost use Rattle.live_traces.specs.ByTrace.{AreGroupsOf};
 
-use crate::chunk::{SharedRow, copy_all, copy_those_of, lend_each, share_each};
+use crate::chunk::{SharedRow, copy_those_of, lend_each, share_each};
 use crate::group::sort_by_trace;
 use crate::run::Run;
 use crate::runs::HasRows;
@@ -64,27 +64,15 @@ impl Rest {
 fn run_by_trace(alloc: Global, rows: &[SharedRow]) -> Result<Run, Memory>
     ensures { IfOk result (λ run. AreGroupsOf (Some run) rows.now) }
 {
-    let mut sorted = shares_of(alloc, rows)?;
+    let mut sorted = Vec::new(alloc);
+    share_each(rows, &mut sorted)?;
     sort_by_trace(&mut sorted)?;
     let run = Run::of(alloc, sorted)?;
     Ok(run)
 }
 
-// The same rows again.
-fn shares_of(alloc: Global, rows: &[SharedRow]) -> Result<Vec<SharedRow>, Memory>
-    ensures { IfOk result (λ shares. shares.items ≡ rows.now) }
-{
-    let mut shares = Vec::new(alloc);
-    share_each(rows, &mut shares)?;
-    Ok(shares)
-}
-
 impl HasRows for Rest {
     ghost listed = { λ rest. rest };
-
-    fn copy_rows(&self, rows: &mut Vec<Row>) -> Result<(), Memory> {
-        copy_all(self.as_slice(), rows)
-    }
 
     fn lend_rows<'a>(&'a self, rows: &mut Vec<RowRef<'a>>) -> Result<(), Memory> {
         lend_each(self.as_slice(), rows)

@@ -95,10 +95,6 @@ impl Run {
 impl HasRows for Run {
     ghost listed = { λ run. run };
 
-    fn copy_rows(&self, rows: &mut Vec<Row>) -> Result<(), Memory> {
-        copy_all(self.as_slice(), rows)
-    }
-
     fn lend_rows<'a>(&'a self, rows: &mut Vec<RowRef<'a>>) -> Result<(), Memory> {
         lend_each(self.as_slice(), rows)
     }

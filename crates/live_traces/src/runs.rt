@@ -20,10 +20,6 @@ use std::marker::Model;
 pub(crate) trait HasRows {
     ghost listed: { Self → List Row };
 
-    /// Adds copies of its rows to a list.
-    fn copy_rows(&self, rows: &mut Vec<Row>) -> Result<(), Memory>
-        ensures { OnOk result (rows.new.items ≡ rows.old.items ++ listed self.now) };
-
     /// Adds its rows to a list, which borrows their spans.
     fn lend_rows<'a>(&'a self, rows: &mut Vec<RowRef<'a>>) -> Result<(), Memory>
         ensures { OnOk result (rows.new.items ≡ rows.old.items ++ listed self.now) };
@@ -113,27 +109,6 @@ impl Runs {
         lend_all(self.pushes.as_slice(), &mut rows)?;
         Ok(rows)
     }
-
-    /// Copies of all rows, in their order.
-    pub fn copy_rows(&self) -> Result<Rows, Memory>
-        ensures { IfOk result (λ rows. rows ≡ self.now) }
-    {
-        let mut rows = Vec::new(*self.runs.allocator());
-        add_all(self.runs.as_slice(), &mut rows)?;
-        add_all(self.rests.as_slice(), &mut rows)?;
-        add_all(self.pushes.as_slice(), &mut rows)?;
-        Ok(Rows::of(rows))
-    }
-}
-
-// Adds copies of all rows.
-fn add_all<T: HasRows>(parts: &[T], rows: &mut Vec<Row>) -> Result<(), Memory>
-    ensures { OnOk result (rows.new.items ≡ rows.old.items ++ flat_map T.listed parts.now) }
-{
-    for part in parts {
-        part.copy_rows(rows)?;
-    }
-    Ok(())
 }
 
 // Adds all rows, whose spans are borrowed.
@@ -157,11 +132,7 @@ fn share_all<T: HasRows>(parts: &[T], rows: &mut Vec<SharedRow>) -> Result<(), M
 }
 
 // Adds copies of the rows of a trace.
-pub(crate) fn add_those_of<T: HasRows>(
-    parts: &[T],
-    trace: TraceId,
-    rows: &mut Vec<Row>,
-) -> Result<(), Memory>
+fn add_those_of<T: HasRows>(parts: &[T], trace: TraceId, rows: &mut Vec<Row>) -> Result<(), Memory>
     ensures { OnOk result
         (rows.new.items ≡ rows.old.items ++ rows_of_trace trace (flat_map T.listed parts.now)) }
 {

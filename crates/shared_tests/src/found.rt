@@ -7,7 +7,7 @@ ghost use Rattle.store_state.specs.Given.{look_of};
 ghost use Rattle.store_state.specs.Meaning.{IsOpen};
 
 use block_read::block_of;
-use span_types::{Row, Rows, first_rows};
+use span_types::{Memory, Row, Rows, TryCopy, first_rows};
 use std::alloc::Global;
 use store_state::{FlushPort, Look, Pin};
 
@@ -99,12 +99,16 @@ fn add_blocks<P: FlushPort>(alloc: Global, port: &mut P, look: &Look, rows: &mut
     read
 }
 
-// The rows of the look that wait.
-fn waiting(look: &Look) -> Option<Vec<Row>> {
-    match look.rows.copy_rows() {
-        Ok(rows) => Some(rows.into_vec()),
-        Err(_) => None,
+// Copies of the rows of the look that wait.
+fn waiting(alloc: Global, look: &Look) -> Result<Vec<Row>, Memory> {
+    let mut rows = Vec::new(alloc);
+    let refs = look.rows.refs(alloc)?;
+    for row in &refs {
+        let place = row.place();
+        let span = row.span().copy()?;
+        rows.push(Row { place, span })?;
     }
+    Ok(rows)
 }
 
 fn firsts(alloc: Global, rows: Vec<Row>) -> Option<Rows> {
@@ -116,7 +120,7 @@ pub(crate) fn shown<P: FlushPort>(alloc: Global, port: &mut P, look: &Look) -> O
     requires { IsOpen P.meaning port.old (look_of look.now) }
     ensures { IsOpen P.meaning port.new (look_of look.now) }
 {
-    let Some(mut rows) = waiting(look) else {
+    let Ok(mut rows) = waiting(alloc, look) else {
         return None;
     };
     if add_blocks(alloc, port, look, &mut rows) {

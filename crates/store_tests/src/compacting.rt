@@ -143,9 +143,9 @@ fn is_tidy(alloc: Global, image: &mut MemDisk) -> Result<bool, Fail> {
 }
 
 // Whether there are two entries, none of whose rows waits.
-fn has_two<P: LookPort>(port: &mut P) -> bool {
+fn has_two<P: LookPort>(alloc: Global, port: &mut P) -> bool {
     match port.look() {
-        Ok(look) => look.as_of == 2 && has_rows(look.rows.copy_rows(), &[]),
+        Ok(look) => look.as_of == 2 && has_rows(alloc, &look.rows, &[]) == Ok(true),
         Err(_) => false,
     }
 }
@@ -155,7 +155,7 @@ fn opens_to_two<D: Device>(alloc: Global, image: D) -> (bool, D) {
     match Core::open_store(alloc, image, 7) {
         Ok(core) => {
             let mut core = core;
-            let same = has_two(&mut core);
+            let same = has_two(alloc, &mut core);
             (same, core.close())
         }
         Err((_, disk)) => (false, disk),

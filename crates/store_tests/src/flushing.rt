@@ -21,19 +21,19 @@ fn with_push(alloc: Global) -> (bool, MemDisk) {
 }
 
 // Whether a flush has this number and the rows of that push, by trace.
-fn is_job(job: &FlushJob, number: u64) -> bool {
-    job.out.number == number && has_rows(job.rows.copy_rows(), &[(0, 1), (0, 0)])
+fn is_job(alloc: Global, job: &FlushJob, number: u64) -> bool {
+    job.out.number == number && has_rows(alloc, &job.rows, &[(0, 1), (0, 0)]) == Ok(true)
 }
 
-fn begins<P: FlushPort>(port: &mut P, number: u64) -> bool {
+fn begins<P: FlushPort>(alloc: Global, port: &mut P, number: u64) -> bool {
     match port.begin_flush() {
-        Ok(Some(job)) => is_job(&job, number),
+        Ok(Some(job)) => is_job(alloc, &job, number),
         _ => false,
     }
 }
 
 // Whether no flush begins beside the first one, and its rows are those of the next one once it is dropped.
-fn begins_again<P: FlushPort>(port: &mut P, job: FlushJob) -> bool
+fn begins_again<P: FlushPort>(alloc: Global, port: &mut P, job: FlushJob) -> bool
     requires { IsOpen P.meaning port.old (flush_of job) }
 {
     let is_busy = match port.begin_flush() {
@@ -41,16 +41,18 @@ fn begins_again<P: FlushPort>(port: &mut P, job: FlushJob) -> bool
         Ok(_) => false,
     };
     port.drop_flush(job);
-    is_busy && begins(port, 2)
+    is_busy && begins(alloc, port, 2)
 }
 
 // Whether that is so once all rows are cut and a flush began.
-fn begins_twice<P: FlushPort>(port: &mut P) -> bool
+fn begins_twice<P: FlushPort>(alloc: Global, port: &mut P) -> bool
     requires { (held : List Hold) × P.meaning.holds port.old held }
 {
     let cut = port.cut_all();
     match port.begin_flush() {
-        Ok(Some(job)) => cut == Ok(2) && is_job(&job, 1) && begins_again(port, job),
+        Ok(Some(job)) => {
+            cut == Ok(2) && is_job(alloc, &job, 1) && begins_again(alloc, port, job)
+        }
         _ => false,
     }
 }
@@ -60,7 +62,7 @@ fn opens_and_begins<D: Device>(alloc: Global, disk: D) -> bool {
         Ok(core) => {
             let mut core = core;
             a_shown_core_is_a_port(&core);
-            begins_twice(&mut core)
+            begins_twice(alloc, &mut core)
         }
         Err(_) => false,
     }

@@ -3,10 +3,10 @@
 ghost use Rattle.std.specs.Prelude.{None};
 ghost use Rattle.span_types.specs.Promises.{AreNames};
 
-use live_traces::Live;
+use live_traces::{Live, Runs};
 use span_types::{
-    Attrs, Batch, Key, MOST_SPANS, Memory, Resource, Rows, Scope, Seq, SharedResource, SharedScope,
-    Span, SpanId, SpanKind, Spans, StatusCode, Text, TraceId, TryCopy,
+    Attrs, Batch, Key, MOST_SPANS, Memory, Place, Resource, Rows, Scope, Seq, SharedResource,
+    SharedScope, Span, SpanId, SpanKind, Spans, StatusCode, Text, TraceId, TryCopy,
 };
 use std::alloc::Global;
 
@@ -135,19 +135,38 @@ pub(crate) fn push(live: &mut Live, number: u64, batch: Batch, moment: u64) -> R
     }
 }
 
+fn is_at(place: Place, at: &(u64, u32)) -> bool {
+    place.number == at.0 && place.position == at.1
+}
+
 pub(crate) fn are_at(rows: &Rows, places: &[(u64, u32)]) -> bool {
     let mut same = rows.len() == places.len();
     for (row, place) in rows.as_slice().iter().zip(places) {
-        same &= row.place.number == place.0 && row.place.position == place.1;
+        same &= is_at(row.place, place);
     }
     same
 }
 
-pub(crate) fn has_rows(rows: Result<Rows, Memory>, places: &[(u64, u32)]) -> bool {
-    match rows {
-        Ok(rows) => are_at(&rows, places),
-        Err(_) => false,
+// Whether the rows in memory, in their order, are those of these places.
+pub(crate) fn has_rows(alloc: Global, runs: &Runs, places: &[(u64, u32)]) -> Result<bool, Memory> {
+    let rows = runs.refs(alloc)?;
+    let mut same = rows.len() == places.len();
+    for (row, place) in rows.as_slice().iter().zip(places) {
+        same &= is_at(row.place(), place);
     }
+    Ok(same)
+}
+
+// Whether all that waits is at these places, those of the flush and of the head first.
+fn holds(alloc: Global, live: &Live, places: &[(u64, u32)]) -> Result<bool, Memory> {
+    let runs = live.runs()?;
+    has_rows(alloc, &runs, places)
+}
+
+// Whether the rows of a trace are at these places.
+fn is_found(live: &Live, trace: TraceId, places: &[(u64, u32)]) -> Result<bool, Memory> {
+    let rows = live.runs()?.rows_of(trace)?;
+    Ok(are_at(&rows, places))
 }
 
 // Whether a cut at this moment moves so many rows.
@@ -164,12 +183,13 @@ fn cuts(alloc: Global, live: &mut Live) -> Result<bool, Memory> {
     push(live, 1, another(alloc)?, 15 * SECOND)?;
     let mut same = moves(live, 20 * SECOND - 1, 0);
     same &= moves(live, 20 * SECOND, 1);
-    same &= has_rows(live.rows(), &[(0, 0), (0, 1), (1, 0)]);
+    same &= holds(alloc, live, &[(0, 0), (0, 1), (1, 0)])?;
     push(live, 2, both(alloc)?, 16 * SECOND)?;
     same &= moves(live, 26 * SECOND - 1, 0);
+    same &= is_found(live, ONE.trace, &[(0, 1), (1, 0), (2, 1)])?;
     same &= moves_all(live, 4);
-    same &= has_rows(live.rows(), &[(0, 0), (0, 1), (1, 0), (2, 1), (2, 0)]);
-    same &= has_rows(live.rows_of(LATTER.trace), &[(0, 0), (2, 0)]);
+    same &= holds(alloc, live, &[(0, 0), (0, 1), (1, 0), (2, 1), (2, 0)])?;
+    same &= is_found(live, LATTER.trace, &[(0, 0), (2, 0)])?;
     Ok(same && live.held() == 5)
 }
 
@@ -181,24 +201,29 @@ fn a_cut_moves_idle_traces_and_then_all(rt: HostRuntime) -> Result<(), Memory> {
 }
 
 // Whether a flush takes these rows, and this is then the least number that waits. One that is open is given up before.
-fn takes(live: &mut Live, most: u32, places: &[(u64, u32)], least: u64) -> bool {
+fn takes(
+    alloc: Global,
+    live: &mut Live,
+    most: u32,
+    places: &[(u64, u32)],
+    least: u64,
+) -> Result<bool, Memory> {
     live.undo_flush();
-    match live.take_head(most) {
-        Ok(taken) => has_rows(taken.copy_rows(), places) && live.least_number() == Some(least),
-        Err(_) => false,
-    }
+    let taken = live.take_head(most)?;
+    let same = has_rows(alloc, &taken, places)?;
+    Ok(same && live.least_number() == Some(least))
 }
 
 fn flushes(alloc: Global, live: &mut Live) -> Result<bool, Memory> {
     push(live, 3, both(alloc)?, 0)?;
     let mut same = moves_all(live, 2);
-    same &= takes(live, 1, &[(3, 1)], 3);
+    same &= takes(alloc, live, 1, &[(3, 1)], 3)?;
     live.undo_flush();
-    same &= has_rows(live.rows(), &[(3, 1), (3, 0)]);
+    same &= holds(alloc, live, &[(3, 1), (3, 0)])?;
     push(live, 4, another(alloc)?, 0)?;
-    same &= takes(live, 2, &[(3, 1), (3, 0)], 4);
+    same &= takes(alloc, live, 2, &[(3, 1), (3, 0)], 4)?;
     live.end_flush();
-    same &= has_rows(live.rows(), &[(4, 0)]);
+    same &= holds(alloc, live, &[(4, 0)])?;
     Ok(same && live.held() == 1)
 }
 

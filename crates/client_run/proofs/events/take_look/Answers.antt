@@ -8,8 +8,8 @@ pub returns-in-Err-clause-answered : goal.returns-in-Err-clause-answered
 returns-in-Err-clause-answered g c = λ flush ready.
     has_not_looked g.P.LookPort.meaning c.args.port.now c.look.new.self c.in-Err.error (looks_of c.args.looks.now.items) flush ready c.in-Err.ensures.called
 
-pub returns-in_err-copy_rows-clause-stopped : goal.returns-in_err-copy_rows-clause-stopped
-returns-in_err-copy_rows-clause-stopped g c = λ flush ready.
+pub returns-in_err-copies-clause-stopped : goal.returns-in_err-copies-clause-stopped
+returns-in_err-copies-clause-stopped g c = λ flush ready.
     let p = err_from_is_err_and c.from_residual.result c.from_residual.ensures.1 in
     rw p.1 (looked_untold g.P.LookPort.meaning c.args.port.now c.look.new.self c.in-Ok.look (looks_of c.args.looks.now.items) flush ready c.in-Ok.ensures.called)
 
@@ -20,6 +20,6 @@ returns-in_err-push-clause-stopped g c = λ flush ready.
 
 pub returns-clause-answered : goal.returns-clause-answered
 returns-clause-answered g c = λ flush ready.
-    has_looked g.P.LookPort.meaning c.args.port.now c.look.new.self c.in-Ok.look c.in_ok-copy_rows.field-0
-    (looks_of c.args.looks.now.items) (looks_of c.push.new.self.items) flush ready c.in-Ok.ensures.called c.in_ok-copy_rows.ensures
+    has_looked g.P.LookPort.meaning c.args.port.now c.look.new.self c.in-Ok.look c.in_ok-copies.field-0
+    (looks_of c.args.looks.now.items) (looks_of c.push.new.self.items) flush ready c.in-Ok.ensures.called c.in_ok-copies.ensures
     (looks_push c.args.looks.now.items c.push.new.self.items c.in-Ok.look c.in_ok-push.ensures.items)

@@ -1,6 +1,6 @@
 use Rattle.std.proofs.Common.{refl, subst, sym}
 use Rattle.live_traces.specs.Rows.{chunk_rows}
-use Rattle.live_traces.specs.Index.{IsOrderOf}
+use Rattle.live_traces.specs.Order.{IsOrderOf}
 use Rattle.live_traces.specs.declared.chunk.Body.{Body}
 use Rattle.live_traces.proofs.chunk.Chunk.of.Goals as goal
 

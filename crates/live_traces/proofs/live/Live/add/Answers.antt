@@ -1,16 +1,7 @@
-use Rattle.std.proofs.Common.{rules, ◌≡◌, ◌-◌, ◌+◌, ◌++◌, ◌∷◌, [], ◌∙◌, ap, subst, sym, arith, length}
+use Rattle.std.proofs.Common.{rules, ◌≡◌, ◌-◌, ◌+◌, ◌++◌, ◌∷◌, [], ◌∙◌, ap, sym, arith, length}
 use Rattle.live_traces.specs.Parts.{arrivals_of, live_of}
-use Rattle.live_traces.specs.Index.{IndexesTraces}
-use Rattle.live_traces.specs.Whole.{parts_of}
 use Rattle.live_traces.proofs.LiveRows.{counted_all}
-use Rattle.live_traces.proofs.Spots.{length_parts, part_more}
 use Rattle.live_traces.proofs.live.Live.add.Goals as goal
-
-pub note_push-requires : goal.note_push-requires
-note_push-requires c =
-    let spans : length c.args.ready.spans ≡ length c.ready.inside.chunk.spans = ap (λ r. length r.spans) (sym c.ready.view_is) in
-    let places : c.args.self.now.places ≡ c.self.inside.index.places = ap (λ v. v.places) (sym c.self.view_is) in
-    omega (arith, spans, places, c.requires.places)
 
 pub invariant_of-self : goal.invariant_of-self
 invariant_of-self c =
@@ -19,15 +10,10 @@ invariant_of-self c =
     ap (λ xs. length (live_of c.self.inside.entries.items ++ arrivals_of xs)) items ∙ counted_all c.self.inside.entries.items c.self.inside.arrivals.items (record { chunk = c.ready.inside.chunk; moment = c.args.moment }) in
     let spans : length c.args.ready.spans ≡ length c.ready.inside.chunk.spans = ap (λ r. length r.spans) (sym c.ready.view_is) in
     let room : c.args.self.now.room ≡ 18446744073709551615 - (c.self.inside.count + c.self.inside.kept_rows) = ap (λ v. v.room) (sym c.self.view_is) in
-    let number : c.len-entries.result + c.len-arrivals.result ≡ length (parts_of c.self.inside.entries.items c.self.inside.arrivals.items) =
-    omega (arith, length_parts c.self.inside.entries.items c.self.inside.arrivals.items, c.len-entries.ensures, c.len-arrivals.ensures) in
     record {
       within = c.self.invariant.within;
       counted = omega (arith, more, c.self.invariant.counted, c.len-more.ensures);
       every = c.self.invariant.every;
       taken = c.self.invariant.taken;
       fits = omega (arith, c.self.invariant.fits, c.len-more.ensures, spans, room, c.requires.room);
-      indexed = subst (IndexesTraces c.note_push.new.index.spots)
-          (sym (ap (parts_of c.self.inside.entries.items) items ∙ part_more c.self.inside.entries.items c.self.inside.arrivals.items (record { chunk = c.ready.inside.chunk; moment = c.args.moment })))
-          (c.note_push.ensures (parts_of c.self.inside.entries.items c.self.inside.arrivals.items) number c.self.invariant.indexed);
     }

@@ -1,9 +1,8 @@
-use Rattle.std.proofs.Common.{◌≡◌, [], ◌++◌, ◌∙◌, ap, sym, arith, length, length-append, append-nil, drop}
+use Rattle.std.proofs.Common.{◌≡◌, ◌++◌, ◌∙◌, ap, sym, arith, length, length-append, append-nil, drop}
 use Rattle.live_traces.specs.Rows.{run_rows}
 use Rattle.live_traces.specs.Parts.{LiveParts, arrivals_of, goes, live_of}
 use Rattle.live_traces.proofs.Groups.{cut_by_trace}
 use Rattle.live_traces.proofs.Kept.{cut_counts, cut_moves, cut_stays, on_err}
-use Rattle.live_traces.proofs.Spots.{indexed_at}
 use Rattle.live_traces.proofs.live.Live.cut.Goals as goal
 
 pub add_run-requires : goal.add_run-requires
@@ -46,7 +45,6 @@ invariant_of-self-2 c =
       every = omega (arith, rows, length-append (run_rows c.self.inside.kept.items) c.in_order-moved.result.items, c.self.invariant.every, c.len-count.ensures);
       taken = c.self.invariant.taken ∙ ap length (sym (c.in_ok-add_run.ensures.first c.self.inside.flushing c.self.invariant.within));
       fits = omega (arith, counts, c.self.invariant.fits);
-      indexed = indexed_at c.in_ok-anew.anew.spots c.as_slice-2.result.now c.in_ok-moved.stay.items [] c.truncate.new.self.items (sym c.as_slice-2.ensures.value) c.truncate.ensures.items c.in_ok-anew.ensures;
     }
 
 pub returns-clause-moved : goal.returns-clause-moved

@@ -19,5 +19,4 @@ invariant_of-self c =
       every = omega (arith, rows, both_lengths c.self.inside.flushing kept, c.self.invariant.every, c.self.invariant.taken, c.replace-rows.ensures.value);
       taken = c.replace-rows.ensures.after ∙ ap (λ n. length (run_rows (take n c.truncate.new.self.items))) (sym c.replace-flushed.ensures.after);
       fits = omega (arith, c.self.invariant.fits);
-      indexed = c.self.invariant.indexed;
     }

@@ -1,9 +1,0 @@
--- So far the rows of the spots below the index were added.
-use Rattle.std.proofs.Common.{◌≡◌, ◌++◌, take}
-use Rattle.rows_by_trace.specs.Traces.{rows_of_trace}
-use Rattle.live_traces.specs.Rows.{run_rows}
-use Rattle.live_traces.specs.Whole.{parts_of}
-use Rattle.live_traces.proofs.lookup.add_rows_of.Given as goal
-
-abbrev pub invariant-loop-spot : goal.invariant-loop-spot
-invariant-loop-spot l = l.rows.items ≡ l.fn.rows.items ++ take l.spot-index (rows_of_trace l.fn.trace (run_rows (parts_of l.entries l.arrivals)))
