@@ -197,7 +197,7 @@ from_built meaning old new job parts pages read bytes info after whole joined st
       (subst (λ (w : ℕ). Leads (stage.Writing (job_of job) (drop w bytes) info.rows) (one.made ∷ calls) round) start (one.leads calls round h)));
 }
 
--- A job that is given up for want of memory.
+-- A job that is given up out of memory.
 pub from_starved : {P : Type 0} (meaning : Meaning P) (old new : P) (job : CompactJob) (parts : List (List Row)) (pages : ℕ) (read : List ℕ) (after : Task)
     → OneEvent meaning (Failing job Memory) old after new → OneEvent meaning (Reading job parts pages read) old after new
 from_starved meaning old new job parts pages read after one = record {

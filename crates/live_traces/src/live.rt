@@ -54,7 +54,7 @@ pub struct Live {
     arrivals: Vec<Arrival>,
     // How many rows are live.
     count: usize,
-    // The runs of the open flush, and behind them those of the head.
+    // The runs of the open flush, and after them those of the head.
     kept: Vec<Run>,
     // How many rows they have.
     kept_rows: usize,

@@ -34,7 +34,7 @@ pub(crate) trait HasRows {
             (rows.new.items ≡ rows.old.items ++ rows_of_trace trace (listed self.now)) };
 }
 
-/// Several runs, behind them what remained live after a cut, and behind that whole pushes. Contracts see the list of all
+/// Several runs, after them what remained live after a cut, and after that whole pushes. Contracts see the list of all
 /// their rows.
 #[derive(Drop)]
 pub struct Runs {

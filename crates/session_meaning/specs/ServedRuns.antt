@@ -32,9 +32,9 @@ pub record AsksAll (clients rounds : ℕ) (text : List ℕ) (ended : Ending) (sc
   pub asked : AreScripts clients rounds (lines text) told scripts refused to_tell
 
 -- How a run ends that asks nothing of the store, where these lines of `text` weren't read, and the source has that left: the source
--- failed, or as many bytes were taken as a run takes, and every line was read that was ended in what was taken; or memory was wanted.
+-- failed, or as many bytes were taken as a run takes, and every line was read that was ended in what was taken; or memory ran out.
 -- `clock` is what the clock had to give after the lines that were read. It is asked on only where these are all lines, and then once for
--- each of the requests that keep the store up: memory was wanted after that.
+-- each of the requests that keep the store up: memory ran out after that.
 abbrev pub EndsUnasked : Ending → ℕ → List ℕ → List (List ℕ) → Option (List ℕ) → (clock to_tell : Option (List ℕ)) → Type 0
 EndsUnasked ReadFault rounds text later left clock to_tell = IsAllEnded text later left × (to_tell ≡ clock)
 EndsUnasked Spent rounds text later left clock to_tell = IsAllEnded text later left × (taken_limit ≤ length text) × (to_tell ≡ clock)
@@ -66,7 +66,7 @@ abbrev pub all_replies : List Answered → List Reply
 all_replies [] = []
 all_replies (one ∷ more) = one.replies.items ++ all_replies more
 
--- whether memory was wanted before the end of some script
+-- whether memory ran out before the end of some script
 abbrev pub any_starved : List Answered → Bool
 any_starved answers = list_any (λ (one : Answered). one.starved) answers
 
@@ -76,7 +76,7 @@ pub record IsServed (ended : Ending) (answers : List Answered) (old new : Option
   pub written : Appends old new (served_text 0 answers)
   pub ends : end_of (all_replies answers) ≡ ended
 
--- Memory was wanted, and not all replies were written.
+-- Memory ran out, and not all replies were written.
 pub data StopsForMemory (answers : List Answered) (old new : Option (List ℕ)) : Type 0 where
   -- before anything was asked
   unasked : answers ≡ [] → new ≡ old → StopsForMemory answers old new
@@ -86,7 +86,7 @@ pub data StopsForMemory (answers : List Answered) (old new : Option (List ℕ)) 
   cut_off : any_starved answers ≡ false → (first : List (List ℕ)) (text : List ℕ) (later : List (List ℕ)) → served_texts 0 answers ≡ first ++ text ∷ later
       → Appends old new (concat first) → StopsForMemory answers old new
 
--- What stands written at each ending: all replies; the first of them and not all, or none, where memory was wanted; a first part of their
+-- What stands written at each ending: all replies; the first of them and not all, or none, where memory ran out; a first part of their
 -- text, where the sink failed; nothing, where the source's end came before any request was answered.
 abbrev pub EndsServing : Ending → List Answered → Option (List ℕ) → Option (List ℕ) → Type 0
 EndsServing answered answers old new = IsServed answered answers old new

@@ -106,7 +106,7 @@ EntriesLead told before (e ∷ entries) after = (between : At) × IsMade told be
 -- Scripts were asked of one store at once, each in its own order, and answered so, from a first store to a last one. `entries` are the
 -- calls of the store that were made, in their one order: each is a step of it, and the count of its disk's faults goes on from one to the
 -- next, and rises by one with each call that answers a fault. Each call is one client's. Those of a client are just the ones by which its
--- script was answered, in its order: all of the script, or its first items where memory was wanted. Where what the store holds is told,
+-- script was answered, in its order: all of the script, or its first items where memory ran out. Where what the store holds is told,
 -- as `told` says, each listed block has as many rows after each call as its information says; and each query tells of the last history as
 -- it was at some length: not below the first history's, with each push that its client was told of before, and not below what a query of
 -- its client told before.

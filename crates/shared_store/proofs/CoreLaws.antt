@@ -1,4 +1,4 @@
--- A port behind which one machine stands is used by nobody else, and what its calls open is apart from what is open.
+-- A port that stands for one machine is used by nobody else, and what its calls open is apart from what is open.
 use Rattle.std.proofs.Common.{◌≡◌, ℕ, ◌+◌, ◌≤◌, ◌==◌, Bool, true, false, List, [], ◌∷◌, ◌++◌, Option, Some, None, refl, sym, ◌∙◌, ap, subst, arith, not, filter, if◌then◌else◌, inl, inr}
 use Rattle.std.specs.Prelude.{◌||◌}
 use Rattle.std.specs.List.{Contains}
@@ -226,7 +226,7 @@ piece_breaks before faults number file bytes m m' (Breaks none writes reply rose
     let bad : Some faults ≡ None = sym (ap (λ (n : Machine). n.read_only) same) ∙ open_still in cc
 piece_breaks before faults number file bytes m m' (Halts none reclaims writes reply rose emptied fewer same) open_still = cc
 
--- Each of its calls is a step of one machine that stands behind it, and while it writes no write of that machine failed.
+-- Each of its calls is a step of the one machine that it stands for, and while it writes no write of that machine failed.
 pub cores_are_unshared : {P : Type 0} (core : CoreMeaning P) (D : P → Event → Reply → P → Type 0)
     → ((old new : P) (event : Event) (reply : Reply) → D old event reply new → CoreDid core old event reply new × CoreShown core old event reply new)
     → ((port : P) (m : Machine) → core.in_memory port m → core.writes port → m.read_only ≡ None)

@@ -1,4 +1,4 @@
--- A port behind which one machine stands, as a core has it.
+-- A port that stands for one machine, as a core does.
 use Rattle.std.specs.Prelude.{◌≡◌, ◌≢◌, ℕ, ◌+◌, ◌≤◌, List, [], Bool, true, false, IsTrue}
 use Rattle.std.specs.List.{Contains}
 use Rattle.span_types.specs.Faults.{Rose}

@@ -40,7 +40,7 @@ pub record Meaning (P : Type 0) : Type 1 where
   pub faults : P → ℕ
   pub reads : P → ℕ
   pub calls : P → ℕ
-  -- what a port says of one call besides, such as that it is a step of the machine that stands behind it
+  -- what a port says of one call besides, such as that it is a step of the machine that it stands for
   pub did : P → Event → Reply → P → Type 0
 
 -- what the port gave out, and nobody gave back
@@ -84,7 +84,7 @@ pub record Called {P : Type 0} (meaning : Meaning P) (old : P) (event : Event) (
   pub bytes : IsTrue (meaning.tells old) → (hold : Hold) → IsOpen meaning old hold → ends event reply hold ≡ false →
       (file : ℕ) → is_among file (files_of hold) ≡ true
       → Rewritten event reply file (meaning.shows old file) (meaning.shows new file)
-  -- a page is that of its file, and a look shows each history that is known behind it
+  -- a page is that of its file, and a look shows each history that is known after it
   pub page : IsTrue (meaning.tells old) → IsPageRead event reply (meaning.shows old)
   pub look : IsTrue (meaning.tells new) → (v : View) → meaning.knows new v →
       IsLookTaken reply (meaning.shows new) v.history

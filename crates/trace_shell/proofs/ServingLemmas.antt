@@ -109,7 +109,7 @@ module _ (clients rounds : ℕ) (told : Option (List ℕ)) (text : List ℕ) whe
       ends Refused (inr (inr is)) h = let bad : ⊥ = cc in absurd bad
 
   module _ (left between to_tell : Option (List ℕ)) (scripts : List (List Item)) (blamed : List (List ℕ)) (h : HasDealt clients told text between scripts blamed) where
-    -- All was read, and memory was wanted then.
+    -- All was read, and memory ran out then.
     pub asks_starved : (to_tell ≡ between) ⊎ (to_tell ≡ after_moments (4 * rounds) between) → AsksNone clients rounds text left Starved [] blamed told to_tell
     asks_starved clock = record {
       read = lines text;
@@ -180,7 +180,7 @@ module _ {D : Type 0} (g : Ghosts D) (clients rounds : ℕ) (core : Core D) (old
 
   module _ (between to_tell : Option (List ℕ)) (scripts : List (List Item)) (blamed : List (List ℕ))
       (dealt : (text : List ℕ) → old_left ≡ Some text → HasDealt clients told text between scripts blamed) where
-    -- They were, and memory was wanted then.
+    -- They were, and memory ran out then.
     pub came_starved : (later : Core D) → later ≡ core → (to_tell ≡ between) ⊎ (to_tell ≡ after_moments (4 * rounds) between)
         → CameServing g clients rounds core later old_left left old_taken old_taken told to_tell Starved blamed
     came_starved later same clock =

@@ -192,11 +192,11 @@ served_ends old new answers t after e whole none given is =
     (λ so. inl (record { whole = whole; written = given.0; ends = so }))
     (λ so. record { whole = whole; written = given.0; ends = so }))
 
--- Memory was wanted before the end of some script.
+-- Memory ran out before the end of some script.
 pub starved_ends : (taken : Sunk) (answers : List Answered) → any_starved answers ≡ true → EndsServing Starved answers taken taken
 starved_ends taken answers some = inr (stops.starved some refl)
 
--- Memory was wanted before anything was asked.
+-- Memory ran out before anything was asked.
 pub unasked_ends : (taken : Sunk) → EndsServing Starved [] taken taken
 unasked_ends taken = inr (stops.unasked refl refl)
 

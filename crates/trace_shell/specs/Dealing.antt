@@ -52,7 +52,7 @@ pub record HasStopped (clients : ℕ) (told : Option (List ℕ)) (text : List �
   pub clock : to_tell ≡ after_lines read told
   pub read_to : IsReadTo (Some ended) text later left
 
--- What a client asks was put behind what it asked before; or memory was wanted for that, and the run stops.
+-- What a client asks was put after what it asked before; or memory ran out for that, and the run stops.
 abbrev pub IsGiven : ℕ → Item → List (List Item) → List (List Item) → After → Type 0
 IsGiven client item old new after.Line = new ≡ slice_set old client (get_or old client [] ++ item ∷ [])
 IsGiven client item old new after.End = ⊥

@@ -26,7 +26,7 @@ abbrev pub tally_after : Tally → List Reply → Tally
 tally_after tally [] = tally
 tally_after tally (reply ∷ replies) = tally_after (tally_with tally reply) replies
 
--- Replies with these texts were written whole, one after another; or memory was wanted for the text of one, and just those before it were;
+-- Replies with these texts were written whole, one after another; or memory ran out for the text of one, and just those before it were;
 -- or the sink failed, and a first part was written.
 abbrev pub HaveBeenGiven : Option (List ℕ) → Option (List ℕ) → Tally → Tally → List Reply → List (List ℕ) → Option Ending → Type 0
 HaveBeenGiven old new tally_old tally_new replies texts None = Appends old new (concat texts) × (tally_new ≡ tally_after tally_old replies)

@@ -238,7 +238,7 @@ fn write_all<K: Sink>(alloc: Global, sink: &mut K, answers: &[Answered]) -> Endi
     }
 }
 
-// Whether memory was wanted before the end of some script.
+// Whether memory ran out before the end of some script.
 fn is_any_starved(answers: &[Answered]) -> bool
     ensures { result ≡ list_any (λ (one : answered). one.starved) answers.now }
 {

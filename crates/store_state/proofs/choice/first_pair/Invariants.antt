@@ -1,4 +1,4 @@
--- So far what the walk knows is right of the blocks behind the position.
+-- So far what the walk knows is right of the blocks after the position.
 use Rattle.std.proofs.Common.{◌≡◌, ◌≤◌, length, drop}
 use Rattle.store_state.specs.Pairing.{IsPairing}
 use Rattle.store_state.proofs.choice.first_pair.Given as goal
