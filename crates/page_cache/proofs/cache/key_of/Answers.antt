@@ -9,4 +9,4 @@ returns-then-not-contains c =
     let seen : c.contains.result ≡ list_any (λ y. nat_eq y c.mark_of.result) c.args.marks.now.items =
     c.contains.ensures.value ∙ ap (λ marks. list_any (λ y. nat_eq y c.mark_of.result) marks) c.as_slice.ensures.value in
     sym (not_marked c.args.file c.args.page c.args.marks.now.items c.args.frames.now.entries c.requires
-        (sym (subst (λ m. c.contains.result ≡ list_any (λ y. nat_eq y m) c.args.marks.now.items) c.mark_of.ensures seen) ∙ c.if-not-contains.true))
+    (sym (subst (λ m. c.contains.result ≡ list_any (λ y. nat_eq y m) c.args.marks.now.items) c.mark_of.ensures seen) ∙ c.if-not-contains.true))
