@@ -9,7 +9,8 @@ use disk_model::{Device, MemDisk};
 use flusher::flush_round;
 use query_fanout::{QueryError, TraceAnswer, find_trace};
 use std::alloc::Global;
-use store_core::{Core, OpenError, a_shown_core_is_a_port};
+use store_core::{Core, a_shown_core_is_a_port};
+use store_files::OpenError;
 use store_state::{FlushPort, LookPort, Port, Round};
 
 /// A step of a script, which is answered as it is without faults, or otherwise.

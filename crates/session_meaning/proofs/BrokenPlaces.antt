@@ -23,9 +23,9 @@ use Rattle.store_images.specs.Log.LogHolds.{ended, goes_on}
 use Rattle.store_images.specs.Stored.{first_number}
 use Rattle.store_images.proofs.Lists.{at_front, behind}
 use Rattle.store_images.proofs.Logs.{log_same}
-use Rattle.store_core.specs.BlockReading.{AreWhole, BlocksBreak, block_in}
-use Rattle.store_core.specs.LogReading.{LogBreaks, SegmentBreaks}
-use Rattle.store_core.specs.LogReading.SegmentBreaks.{malformed, astray}
+use Rattle.store_files.specs.BlockReading.{AreWhole, BlocksBreak, block_in}
+use Rattle.store_files.specs.LogReading.{LogBreaks, SegmentBreaks}
+use Rattle.store_files.specs.LogReading.SegmentBreaks.{malformed, astray}
 use Rattle.store_core.specs.Opening.{ListBreaks, StoreBreaks}
 use Rattle.store_core.specs.Opening.ListBreaks.{block, log}
 use Rattle.store_core.specs.Opening.StoreBreaks.{slot, listed}

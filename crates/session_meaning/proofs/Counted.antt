@@ -10,7 +10,9 @@ use Rattle.store_model.specs.State.{Block}
 use Rattle.store_model.specs.Step.{Machine}
 use Rattle.store_model.specs.Told.{AreCounted}
 use Rattle.store_images.specs.Stored.{ref_of}
-use Rattle.store_core.specs.Cores.{AreDescribed, CoreStandsFor, listed_as}
+use Rattle.store_core.specs.Cores.{CoreStandsFor}
+use Rattle.store_files.specs.Described.{AreDescribed}
+use Rattle.store_files.specs.BlockReading.{listed_as}
 use Rattle.store_core.specs.declared.store.Core.{Core}
 
 same_first : (a b : BlockRef) (xs ys : List BlockRef) → a ∷ xs ≡ b ∷ ys → (a ≡ b) × (xs ≡ ys)

@@ -11,9 +11,9 @@ use Rattle.disk_model.proofs.CallRuns.{passes_none, passes_then}
 use Rattle.session_text.specs.declared.reply.Reply.{Reply}
 use Rattle.store_state.specs.Made.{AreMade, Call}
 use Rattle.store_core.specs.Port.{port_of}
-use Rattle.store_core.specs.declared.error.OpenError.{OpenError}
-use Rattle.store_core.specs.declared.error.OpenError.TheVariants as error
-use Rattle.store_core.specs.declared.error.OpenError.TheVariants.{Fault, Memory, NotStore}
+use Rattle.store_files.specs.declared.error.OpenError.{OpenError}
+use Rattle.store_files.specs.declared.error.OpenError.TheVariants as error
+use Rattle.store_files.specs.declared.error.OpenError.TheVariants.{Fault, Memory, NotStore}
 use Rattle.store_core.specs.declared.store.Core.{Core}
 use Rattle.store_reopen.specs.Reopened.{Reopens, disk_of}
 use Rattle.store_reopen.specs.declared.store.Store.{Store}

@@ -20,8 +20,8 @@ use Rattle.store_core.specs.Cores.{unsure_of}
 use Rattle.store_core.specs.Opening.{BeginsAs, BeginsEmpty, LeavesAlone, opened_state}
 use Rattle.store_core.specs.NewCore.{new_machine}
 use Rattle.store_core.specs.Port.{port_of}
-use Rattle.store_core.specs.declared.error.OpenError.{OpenError}
-use Rattle.store_core.specs.declared.error.OpenError.TheVariants.{Fault, Memory, NotStore}
+use Rattle.store_files.specs.declared.error.OpenError.{OpenError}
+use Rattle.store_files.specs.declared.error.OpenError.TheVariants.{Fault, Memory, NotStore}
 use Rattle.store_core.specs.declared.store.Core.{Core}
 use Rattle.store_reopen.specs.Reopened.{Reopens, disk_of}
 use Rattle.store_reopen.specs.Through.{GoesOn, KeepsThrough}

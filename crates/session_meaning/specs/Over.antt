@@ -8,8 +8,8 @@ use Rattle.session_text.specs.declared.reply.Reply.TheVariants.{Refused, Reopene
 use Rattle.store_model.specs.State.{State}
 use Rattle.store_core.specs.Cores.{CoreShows, CoreStandsFor, unsure_of}
 use Rattle.store_core.specs.Port.{port_of}
-use Rattle.store_core.specs.declared.error.OpenError.{OpenError}
-use Rattle.store_core.specs.declared.error.OpenError.TheVariants.{Fault, Memory, NotStore}
+use Rattle.store_files.specs.declared.error.OpenError.{OpenError}
+use Rattle.store_files.specs.declared.error.OpenError.TheVariants.{Fault, Memory, NotStore}
 use Rattle.store_core.specs.declared.store.Core.{Core}
 use Rattle.store_reopen.specs.Reopened.{Reopens, disk_of}
 use Rattle.store_reopen.specs.Through.{KeepsThrough}

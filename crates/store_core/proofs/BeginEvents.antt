@@ -31,18 +31,21 @@ use Rattle.store_state.specs.Given.{info_files}
 use Rattle.store_state.specs.declared.listing.FlushFiles.{FlushFiles}
 use Rattle.store_images.specs.Stored.{KeepsStored}
 use Rattle.store_images.proofs.Keeping.{keeps_same}
-use Rattle.store_core.specs.Files.{SameBelow, IsEmptied}
+use Rattle.store_files.specs.Files.{SameBelow, IsEmptied}
 use Rattle.store_core.specs.Jobs.{ShowsFlush, CommitFits, HasFreshSegment, SameCompaction, open_jobs}
 use Rattle.store_core.specs.declared.jobs.Jobs.{Jobs}
 use Rattle.store_core.specs.declared.jobs.OpenFlush.{OpenFlush}
 use Rattle.store_core.specs.declared.room.CommitRoom.{CommitRoom}
 use Rattle.store_core.specs.declared.state.CoreState.{CoreState}
 use Rattle.store_core.specs.declared.store.Core.{Core}
-use Rattle.store_core.specs.Cores.{HasState, StandsFor, StateShows, AreDescribed, listed_as, tail_of}
+use Rattle.store_core.specs.Cores.{HasState, StandsFor, StateShows}
+use Rattle.store_files.specs.Described.{AreDescribed}
+use Rattle.store_files.specs.BlockReading.{listed_as}
+use Rattle.store_files.specs.LogReading.{tail_of}
 use Rattle.store_core.proofs.Now.{StandsNow}
 use Rattle.store_core.specs.Events.{Did}
 use Rattle.store_core.specs.Beginning.{KeepsRooms, unless_rows}
-use Rattle.store_core.proofs.Apart.{keeps_below, settled_below}
+use Rattle.store_files.proofs.Apart.{keeps_below, settled_below}
 use Rattle.store_core.proofs.Counted.{calls_fine, calls_fault, calls_rose, calls_exact, calls_most, calls_unread}
 use Rattle.store_core.proofs.Kept.{stands_kept, did_kept, described_below}
 use Rattle.store_core.proofs.InUse.{used_begun}

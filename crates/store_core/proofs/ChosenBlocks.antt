@@ -16,7 +16,8 @@ use Rattle.store_state.specs.Shown.{told_block, IsChoiceOf, AreFew, JoinsChoice}
 use Rattle.store_state.specs.Written.{AreBlocksOf}
 use Rattle.store_images.proofs.Lists.{not_in_nil, in_cons, at_front, behind}
 use Rattle.store_core.specs.Beginning.{at_places}
-use Rattle.store_core.specs.Cores.{HasState, listed_as}
+use Rattle.store_core.specs.Cores.{HasState}
+use Rattle.store_files.specs.BlockReading.{listed_as}
 use Rattle.store_core.specs.declared.state.CoreState.{CoreState}
 
 -- ---- positions

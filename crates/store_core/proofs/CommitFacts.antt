@@ -20,11 +20,12 @@ use Rattle.store_model.specs.Step.{Machine, Step, with_state}
 use Rattle.store_model.proofs.KeepsFirsts.{step_keeps as keeps_firsts}
 use Rattle.store_model.proofs.KeepsFloor.{step_keeps as keeps_floor}
 use Rattle.store_images.specs.Stored.{ref_of}
-use Rattle.store_core.specs.Cores.{StandsFor, tail_of}
+use Rattle.store_core.specs.Cores.{StandsFor}
+use Rattle.store_files.specs.LogReading.{tail_of}
 use Rattle.store_core.specs.declared.jobs.OpenFlush.{OpenFlush}
 use Rattle.store_core.specs.declared.state.CoreState.{CoreState}
-use Rattle.store_core.specs.Jobs.{IsSpare}
-use Rattle.store_core.proofs.Apart.{below_same, settled_below}
+use Rattle.store_files.specs.Loose.{IsSpare}
+use Rattle.store_files.proofs.Apart.{below_same, settled_below}
 use Rattle.store_core.proofs.CommitImages.{MayCommit, firsts_in}
 use Rattle.store_core.proofs.CommitStates.{new_block, committed_state, next_last, next_parting}
 use Rattle.store_core.proofs.Logged.{both_within, flush_outside, head_outside, live_outside, logged_same}

@@ -31,9 +31,9 @@ use Rattle.store_images.specs.Settled.{Tail, IsSettled}
 use Rattle.store_images.proofs.Committed.{committed, left_logged}
 use Rattle.store_images.proofs.Keeping.{segment_named, block_named, rules_in, given_out, blocks_same, slots_same, one_list}
 use Rattle.store_images.proofs.Logs.{log_same}
-use Rattle.store_core.specs.Cores.{AreDescribed}
+use Rattle.store_files.specs.Described.{AreDescribed}
 use Rattle.store_core.specs.Waiting.{AreLogged}
-use Rattle.store_core.proofs.LogLaws.{one_log}
+use Rattle.store_files.proofs.LogLaws.{one_log}
 use Rattle.store_core.proofs.NextLists.{Parting}
 
 -- first occurrences are among the rows

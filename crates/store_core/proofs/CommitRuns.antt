@@ -17,7 +17,7 @@ use Rattle.block_list.specs.Loading.{IsReady}
 use Rattle.block_list.specs.declared.body.ListBody.{ListBody}
 use Rattle.store_model.specs.History.{History}
 use Rattle.store_images.specs.Stored.{ImageStandsFor, IsTidy}
-use Rattle.store_core.proofs.NextRoom.{text_short}
+use Rattle.store_files.proofs.LooseFiles.{text_short}
 use Rattle.store_core.proofs.PushEvents.{OnlyNow}
 
 -- what the sync of the block tells

@@ -21,11 +21,13 @@ use Rattle.store_state.specs.Given.{info_files}
 use Rattle.store_state.specs.Loose.{AreFilesOf}
 use Rattle.store_state.specs.declared.listing.FlushFiles.{FlushFiles}
 use Rattle.store_images.specs.Stored.{ref_of}
-use Rattle.store_core.specs.Jobs.{ShowsFlush, ShowsCompaction, IsSpare, open_jobs, one_if, files_of_compaction}
-use Rattle.store_core.specs.Cores.{HasState, listed_as, segment_of}
+use Rattle.store_core.specs.Jobs.{ShowsFlush, ShowsCompaction, open_jobs, one_if, files_of_compaction}
+use Rattle.store_files.specs.Loose.{IsSpare}
+use Rattle.store_core.specs.Cores.{HasState, segment_of}
+use Rattle.store_files.specs.BlockReading.{listed_as}
 use Rattle.store_core.specs.InUse.{AreInUse}
 use Rattle.store_core.specs.NextList.{IsNextList, flush_edit}
-use Rattle.store_core.specs.Pins.{is_taken, files_at}
+use Rattle.store_files.specs.Pins.{is_taken, files_at}
 use Rattle.store_core.specs.declared.jobs.OpenFlush.{OpenFlush}
 use Rattle.store_core.specs.declared.jobs.OpenCompaction.{OpenCompaction}
 use Rattle.store_core.specs.declared.state.CoreState.{CoreState}

@@ -18,7 +18,7 @@ use Rattle.store_state.specs.Written.{NamesJob, IsJoinedBlock}
 use Rattle.store_core.specs.Cores.{HasState, StateShows, unsure_of}
 use Rattle.store_core.specs.Jobs.{SameCompaction, SameJobs, one_if, open_jobs, files_of_flush}
 use Rattle.store_core.specs.NextList.{IsJoinedList, compact_edit, infos_outside}
-use Rattle.store_core.specs.Pins.{is_taken, files_at}
+use Rattle.store_files.specs.Pins.{is_taken, files_at}
 use Rattle.store_core.specs.declared.jobs.OpenCompaction.{OpenCompaction}
 use Rattle.store_core.specs.declared.state.CoreState.{CoreState}
 use Rattle.store_core.specs.declared.store.Core.{Core}

@@ -27,8 +27,8 @@ use Rattle.store_state.specs.Calls.{MadeCalls}
 use Rattle.store_state.specs.Given.{info_files}
 use Rattle.store_images.specs.Stored.{KeepsStored}
 use Rattle.store_images.proofs.Keeping.{keeps_same}
-use Rattle.store_core.specs.Files.{SameBelow, IsEmptied}
-use Rattle.store_core.specs.Pins.{is_taken, is_there, files_at, files_in, pin_at}
+use Rattle.store_files.specs.Files.{SameBelow, IsEmptied}
+use Rattle.store_files.specs.Pins.{is_taken, is_there, files_at, files_in, pin_at}
 use Rattle.store_core.specs.Jobs.{ShowsCompaction, CommitFits, HasFreshSegment, SameFlush, open_jobs}
 use Rattle.store_core.specs.Beginning.{KeepsRooms}
 use Rattle.store_core.specs.declared.jobs.Jobs.{Jobs}
@@ -37,10 +37,12 @@ use Rattle.store_core.specs.declared.jobs.OpenCompaction.{OpenCompaction}
 use Rattle.store_core.specs.declared.room.CommitRoom.{CommitRoom}
 use Rattle.store_core.specs.declared.state.CoreState.{CoreState}
 use Rattle.store_core.specs.declared.store.Core.{Core}
-use Rattle.store_core.specs.Cores.{HasState, StandsFor, StateShows, listed_as, tail_of}
+use Rattle.store_core.specs.Cores.{HasState, StandsFor, StateShows}
+use Rattle.store_files.specs.BlockReading.{listed_as}
+use Rattle.store_files.specs.LogReading.{tail_of}
 use Rattle.store_core.proofs.Now.{StandsNow}
 use Rattle.store_core.specs.Events.{Did}
-use Rattle.store_core.proofs.Apart.{keeps_below, settled_below}
+use Rattle.store_files.proofs.Apart.{keeps_below, settled_below}
 use Rattle.store_core.proofs.BeginEvents.{built_same, not_zero}
 use Rattle.store_core.proofs.JobRooms.{RoomOfFlush, RoomOfCompaction, SpareCompaction, LowLevel, rooms_fewer, two_at_most, flush_shown, compaction_shown, spare_flush, fresh_same}
 use Rattle.store_core.proofs.Counted.{calls_fine, calls_fault, calls_rose, calls_exact, calls_most, calls_unread}
@@ -50,7 +52,7 @@ use Rattle.store_core.proofs.Logged.{logged_kept}
 use Rattle.store_core.specs.Frames.{IsKept}
 use Rattle.store_core.proofs.KeptFiles.{kept_low}
 use Rattle.store_core.proofs.OpenJobs.{fresh_moved, segment_of_known, held_low}
-use Rattle.store_core.proofs.PinNumbers.{among-more, files-more}
+use Rattle.store_files.proofs.PinNumbers.{among-more, files-more}
 use Rattle.store_core.proofs.PushEvents.{OnlyNow, refused_is}
 use Rattle.store_core.proofs.Quiet.{quiet, none_begun, one_begun, adds_none}
 use Rattle.store_core.proofs.States.{has_stopped}

@@ -32,9 +32,12 @@ use Rattle.store_images.proofs.Storing.{settled_now}
 use Rattle.store_core.specs.declared.jobs.OpenFlush.{OpenFlush}
 use Rattle.store_core.specs.declared.state.CoreState.{CoreState}
 use Rattle.store_core.specs.declared.store.Core.{Core}
-use Rattle.store_core.specs.Cores.{HasState, StandsFor, StateShows, AreDescribed, tail_of, unsure_of}
+use Rattle.store_core.specs.Cores.{HasState, StandsFor, StateShows, unsure_of}
+use Rattle.store_files.specs.Described.{AreDescribed}
+use Rattle.store_files.specs.LogReading.{tail_of}
 use Rattle.store_core.specs.Events.{Did}
-use Rattle.store_core.specs.Jobs.{HasFreshSegment, IsSpare}
+use Rattle.store_core.specs.Jobs.{HasFreshSegment}
+use Rattle.store_files.specs.Loose.{IsSpare}
 use Rattle.store_core.specs.NextList.{IsJoinedList, infos_outside}
 use Rattle.store_core.specs.Waiting.{rows_outside, AreLogged}
 use Rattle.store_core.proofs.CommitEnds.{IsDecided, Lists, Takes, built_old, listed_still, did_committed, did_commit_fail, same_file}

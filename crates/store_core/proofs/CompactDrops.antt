@@ -11,7 +11,7 @@ use Rattle.store_model.specs.Event.Refusal.{Fault}
 use Rattle.store_model.specs.Step.{Machine, Step, with_state}
 use Rattle.store_model.specs.Step.Step.{Succeeds}
 use Rattle.store_images.proofs.Keeping.{keeps_same}
-use Rattle.store_core.specs.Pins.{is_taken, files_at}
+use Rattle.store_files.specs.Pins.{is_taken, files_at}
 use Rattle.store_core.specs.Jobs.{ShowsFlush, ShowsCompaction, files_of_compaction, one_if}
 use Rattle.store_core.specs.declared.jobs.Jobs.{Jobs}
 use Rattle.store_core.specs.declared.jobs.OpenFlush.{OpenFlush}
@@ -25,7 +25,7 @@ use Rattle.store_core.proofs.InUse.{used_dropped_compact}
 use Rattle.store_core.proofs.Logged.{logged_still}
 use Rattle.store_core.proofs.JobRooms.{EndsOne, fit_ended, rooms_ended, loose_more, one_none, one_some, fresh_as}
 use Rattle.store_core.proofs.OpenCompactions.{IsCompactionHere, model_of}
-use Rattle.store_core.proofs.PinNumbers.{among-less, files-less}
+use Rattle.store_files.proofs.PinNumbers.{among-less, files-less}
 use Rattle.store_core.proofs.PushEvents.{OnlyNow}
 use Rattle.store_core.proofs.Quiet.{quiet}
 

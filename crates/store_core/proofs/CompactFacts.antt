@@ -21,11 +21,13 @@ use Rattle.store_state.specs.Given.{info_files}
 use Rattle.store_state.specs.Shown.{AreBlocks}
 use Rattle.store_state.specs.Written.{HoldRows, IsBlockOf, IsJoinedBlock}
 use Rattle.store_images.specs.Committed.{MayCompact}
-use Rattle.store_core.specs.Cores.{StandsFor, rows_by_block, tail_of}
+use Rattle.store_core.specs.Cores.{StandsFor}
+use Rattle.store_files.specs.Described.{rows_by_block}
+use Rattle.store_files.specs.LogReading.{tail_of}
 use Rattle.store_core.specs.InUse.{AreInUse}
 use Rattle.store_core.specs.NextList.{IsJoinedList}
 use Rattle.store_core.specs.declared.state.CoreState.{CoreState}
-use Rattle.store_core.proofs.Apart.{below_same, settled_below}
+use Rattle.store_files.proofs.Apart.{below_same, settled_below}
 use Rattle.store_core.proofs.Described.{described_holds}
 use Rattle.store_core.proofs.CompactStates.{joined_block, joined_state}
 use Rattle.store_core.proofs.InUse.{once_contained}

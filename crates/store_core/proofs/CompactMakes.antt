@@ -25,8 +25,8 @@ use Rattle.store_state.specs.Replies.{begin_refusal}
 use Rattle.store_state.specs.declared.errors.BeginError.{BeginError}
 use Rattle.store_state.specs.declared.errors.BeginError.TheVariants.{ReadOnly as IsReadOnly, Busy as IsBusy, FilesSpent as AreSpent, Fault as Faulted, Memory as Lacking}
 use Rattle.store_state.specs.declared.jobs.Pin.{Pin}
-use Rattle.store_core.specs.Files.{SameBelow, IsEmptied}
-use Rattle.store_core.specs.Pins.{is_taken, files_at}
+use Rattle.store_files.specs.Files.{SameBelow, IsEmptied}
+use Rattle.store_files.specs.Pins.{is_taken, files_at}
 use Rattle.store_core.specs.Jobs.{CommitFits, SameJobs, SameFlush}
 use Rattle.store_core.specs.Beginning.{MayCompact, HasRoomStill, HasRoomToBegin, IsMade, IsNotMade, at_places}
 use Rattle.store_core.specs.declared.jobs.Jobs.{Jobs}
@@ -34,7 +34,8 @@ use Rattle.store_core.specs.declared.jobs.OpenFlush.{OpenFlush}
 use Rattle.store_core.specs.declared.room.CommitRoom.{CommitRoom}
 use Rattle.store_core.specs.declared.state.CoreState.{CoreState}
 use Rattle.store_core.specs.declared.store.Core.{Core}
-use Rattle.store_core.specs.Cores.{CoreStandsFor, HasState, StateShows, listed_as}
+use Rattle.store_core.specs.Cores.{CoreStandsFor, HasState, StateShows}
+use Rattle.store_files.specs.BlockReading.{listed_as}
 use Rattle.store_core.specs.Events.{Did}
 use Rattle.store_core.proofs.ChosenBlocks.{chosen_files, chosen_level, told_choice, in_places, some_there, level_fits, joins_choice, blocks_at}
 use Rattle.store_core.proofs.CompactBegins.{Begun, Pins, IsChoice, did_compact, did_compact_fail, did_lack_compact, did_not_compact, given_back}

@@ -23,9 +23,12 @@ use Rattle.store_state.specs.Given.{info_files}
 use Rattle.store_state.specs.Parted.{inside, outside}
 use Rattle.store_state.proofs.Listings.{blocks_outside, files_inside}
 use Rattle.store_images.specs.Stored.{ref_of}
-use Rattle.store_core.specs.Cores.{HasState, AreDescribed, listed_as, segment_of}
+use Rattle.store_core.specs.Cores.{HasState, segment_of}
+use Rattle.store_files.specs.Described.{AreDescribed}
+use Rattle.store_files.specs.BlockReading.{listed_as}
 use Rattle.store_core.specs.InUse.{AreInUse}
-use Rattle.store_core.specs.Jobs.{ShowsFlush, ShowsCompaction, IsSpare, open_jobs, one_if, files_of_flush}
+use Rattle.store_core.specs.Jobs.{ShowsFlush, ShowsCompaction, open_jobs, one_if, files_of_flush}
+use Rattle.store_files.specs.Loose.{IsSpare}
 use Rattle.store_core.specs.NextList.{IsJoinedList, compact_edit, infos_outside}
 use Rattle.store_core.specs.declared.jobs.OpenCompaction.{OpenCompaction}
 use Rattle.store_core.specs.declared.jobs.OpenFlush.{OpenFlush}

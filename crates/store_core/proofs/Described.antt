@@ -9,7 +9,7 @@ use Rattle.store_model.specs.State.{Block, block_files}
 use Rattle.store_state.specs.Given.{info_files}
 use Rattle.store_state.specs.Written.{AreBlocksOf, HoldRows}
 use Rattle.store_images.proofs.Lists.{at_front, behind}
-use Rattle.store_core.specs.Cores.{AreDescribed, rows_by_block}
+use Rattle.store_files.specs.Described.{AreDescribed, rows_by_block}
 
 abbrev front : List ℕ → ℕ
 front [] = 0

@@ -34,7 +34,9 @@ use Rattle.store_images.proofs.Storing.{settled_now}
 use Rattle.store_core.specs.declared.jobs.OpenFlush.{OpenFlush}
 use Rattle.store_core.specs.declared.state.CoreState.{CoreState}
 use Rattle.store_core.specs.declared.store.Core.{Core}
-use Rattle.store_core.specs.Cores.{HasState, StandsFor, StateShows, AreDescribed, segment_of, tail_of, unsure_of}
+use Rattle.store_core.specs.Cores.{HasState, StandsFor, StateShows, segment_of, unsure_of}
+use Rattle.store_files.specs.Described.{AreDescribed}
+use Rattle.store_files.specs.LogReading.{tail_of}
 use Rattle.store_core.specs.Events.{Did}
 use Rattle.store_core.specs.Jobs.{files_of_compaction}
 use Rattle.store_core.specs.Waiting.{rows_outside, AreLogged}

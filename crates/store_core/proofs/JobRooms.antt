@@ -9,7 +9,8 @@ use Rattle.head_log.specs.Stands.{SegmentHolds}
 use Rattle.block_info.specs.InfoParts.{InfoParts}
 use Rattle.block_list.specs.declared.body.ListBody.{ListBody}
 use Rattle.store_model.specs.State.{Flush, Compaction}
-use Rattle.store_core.specs.Jobs.{ShowsFlush, ShowsCompaction, IsSpare, JobsFit, CommitFits, HaveRoomFor, HasCommitRoom, HasFreshSegment, SameFlush, SameCompaction, SameJobs, one_if, open_jobs}
+use Rattle.store_core.specs.Jobs.{ShowsFlush, ShowsCompaction, JobsFit, CommitFits, HaveRoomFor, HasCommitRoom, HasFreshSegment, SameFlush, SameCompaction, SameJobs, one_if, open_jobs}
+use Rattle.store_files.specs.Loose.{IsSpare}
 use Rattle.store_core.specs.Beginning.{KeepsRooms}
 use Rattle.store_core.specs.declared.jobs.Jobs.{Jobs}
 use Rattle.store_core.specs.declared.jobs.OpenFlush.{OpenFlush}

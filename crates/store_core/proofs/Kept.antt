@@ -20,12 +20,14 @@ use Rattle.store_state.specs.Written.{IsPageRead}
 use Rattle.store_images.specs.Stored.{MayStandFor, IsTidy, KeepsStored}
 use Rattle.store_images.specs.Settled.{IsSettled}
 use Rattle.store_images.proofs.Keeping.{block_named, given_out}
-use Rattle.store_core.specs.Files.{SameBelow, IsEmptied}
+use Rattle.store_files.specs.Files.{SameBelow, IsEmptied}
 use Rattle.store_core.specs.Jobs.{HasFreshSegment}
 use Rattle.store_core.specs.Waiting.{rows_outside, AreLogged}
 use Rattle.store_core.specs.declared.state.CoreState.{CoreState}
 use Rattle.store_core.specs.declared.store.Core.{Core}
-use Rattle.store_core.specs.Cores.{HasState, StandsFor, StateShows, AreDescribed, tail_of, unsure_of}
+use Rattle.store_core.specs.Cores.{HasState, StandsFor, StateShows, unsure_of}
+use Rattle.store_files.specs.Described.{AreDescribed}
+use Rattle.store_files.specs.LogReading.{tail_of}
 use Rattle.store_core.proofs.Counted.{Counted}
 use Rattle.page_cache.specs.Frames.{Frame}
 use Rattle.store_core.specs.Frames.{IsKept}

@@ -16,7 +16,6 @@ mod Frames
 mod OpenCompactions
 mod OpenJobs
 mod Pushing
-mod PinNumbers
 mod Looking
 mod Showing
 mod Founding
@@ -25,7 +24,6 @@ mod PushEvents
 pub mod Past
 mod LookEvents
 pub mod CutEvents
-mod Apart
 mod Kept
 mod KeptCores
 mod Ended
@@ -53,18 +51,12 @@ mod CompactFacts
 mod CompactCommits
 mod CompactAnswers
 mod PortEvents
-pub mod LogSteps
-mod LooseFiles
-mod LeftFiles
 mod Spare
 mod Rising
 mod PinnedFiles
-mod ReclaimImages
 mod ReclaimStates
 mod ReclaimEvents
-mod ReadBlocks
 mod Revived
-mod LogLaws
 mod OpenedStates
 mod OpeningSteps
 mod OpeningEnds

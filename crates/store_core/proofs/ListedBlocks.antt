@@ -17,7 +17,8 @@ use Rattle.store_state.specs.Given.{info_files}
 use Rattle.store_state.specs.Shown.{AreBlocks}
 use Rattle.store_state.specs.Written.{AreBlocksOf, HoldRows}
 use Rattle.store_images.proofs.Lists.{at_front, behind, in_cons, not_in_nil, was_in}
-use Rattle.store_core.specs.Cores.{HasState, listed_as}
+use Rattle.store_core.specs.Cores.{HasState}
+use Rattle.store_files.specs.BlockReading.{listed_as}
 use Rattle.store_core.specs.Frames.{IsKept}
 use Rattle.store_core.specs.NextList.{infos_outside}
 use Rattle.store_core.specs.declared.state.CoreState.{CoreState}

@@ -29,9 +29,9 @@ use Rattle.store_images.proofs.Growing.{count_of-pushed, stored_more}
 use Rattle.store_images.proofs.Logs.{log_same, log_with}
 use Rattle.store_images.proofs.Keeping.{segment_named, given_out}
 use Rattle.store_images.proofs.Storing.{its_rules, front_apart}
-use Rattle.store_core.specs.Files.{SameBelow}
+use Rattle.store_files.specs.Files.{SameBelow}
 use Rattle.store_core.specs.Waiting.{rows_outside, AreLogged}
-use Rattle.store_core.proofs.LogLaws.{one_log}
+use Rattle.store_files.proofs.LogLaws.{one_log}
 
 -- ---- rows within others
 

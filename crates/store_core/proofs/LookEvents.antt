@@ -14,7 +14,7 @@ use Rattle.store_model.specs.Event.Refusal.{Fault, Memory}
 use Rattle.store_model.specs.Step.{Machine, Step, IsLookPin, with_state}
 use Rattle.store_model.specs.Step.Step.{Succeeds, Lacks}
 use Rattle.store_state.specs.Given.{info_files}
-use Rattle.store_core.specs.Pins.{is_taken, files_at}
+use Rattle.store_files.specs.Pins.{is_taken, files_at}
 use Rattle.store_core.specs.declared.state.CoreState.{CoreState}
 use Rattle.store_core.specs.declared.store.Core.{Core}
 use Rattle.store_core.specs.Cores.{HasState, CoreShows}

@@ -18,16 +18,18 @@ use Rattle.store_model.specs.Step.Step.{Succeeds}
 use Rattle.store_model.proofs.KeepsFirsts.{step_keeps as keeps_firsts}
 use Rattle.store_model.proofs.KeepsSound.{step_keeps as keeps_sound}
 use Rattle.store_model.proofs.KeepsFloor.{step_keeps as keeps_floor}
-use Rattle.store_core.specs.Pins.{is_taken, files_at}
+use Rattle.store_files.specs.Pins.{is_taken, files_at}
 use Rattle.store_core.specs.declared.jobs.OpenCompaction.{OpenCompaction}
 use Rattle.store_core.specs.declared.state.CoreState.{CoreState}
 use Rattle.store_images.specs.Stored.{ref_of}
 use Rattle.store_images.specs.Settled.{IsSettled}
 use Rattle.store_core.specs.Jobs.{ShowsFlush, ShowsCompaction}
-use Rattle.store_core.specs.Cores.{HasState, StandsFor, AreDescribed, tail_of}
+use Rattle.store_core.specs.Cores.{HasState, StandsFor}
+use Rattle.store_files.specs.Described.{AreDescribed}
+use Rattle.store_files.specs.LogReading.{tail_of}
 use Rattle.store_core.specs.InUse.{AreInUse}
 use Rattle.store_core.proofs.Logged.{logged_still}
-use Rattle.store_core.proofs.PinNumbers.{among-more, among-less, files-more, files-less}
+use Rattle.store_files.proofs.PinNumbers.{among-more, among-less, files-more, files-less}
 
 -- the pins that are known are those of the model
 pub record ShowsPins (pins : List Pinned) (known : List (Option (List ℕ))) : Type 0 where

@@ -13,8 +13,10 @@ use Rattle.store_images.proofs.Lists.{not_in_nil}
 use Rattle.store_images.proofs.Storing.{settled_now}
 use Rattle.store_core.specs.declared.state.CoreState.{CoreState}
 use Rattle.store_state.specs.Given.{info_files}
-use Rattle.store_core.specs.Pins.{is_taken, files_at}
-use Rattle.store_core.specs.Cores.{StandsFor, listed_as, segment_of, tail_of, unsure_of}
+use Rattle.store_files.specs.Pins.{is_taken, files_at}
+use Rattle.store_core.specs.Cores.{StandsFor, segment_of, unsure_of}
+use Rattle.store_files.specs.BlockReading.{listed_as}
+use Rattle.store_files.specs.LogReading.{tail_of}
 use Rattle.store_core.specs.Jobs.{ShowsFlush, ShowsCompaction, HasNoJobs}
 use Rattle.store_core.specs.declared.jobs.OpenFlush.{OpenFlush}
 use Rattle.store_core.specs.declared.jobs.OpenCompaction.{OpenCompaction}

@@ -1,10 +1,8 @@
 -- The list that an edit makes, in the room that the begin of a job took.
-use Rattle.std.proofs.Common.{◌≡◌, ℕ, ◌+◌, ◌≤◌, List, length, None, Some, Option, ap, arith, ◌<◌, ◌^◌}
+use Rattle.std.proofs.Common.{◌≡◌, ℕ, ◌≤◌, length, None, Some, Option, arith}
 use Rattle.block_list.specs.Body.{text_of}
-use Rattle.block_list.specs.Commit.{IsListText}
-use Rattle.block_list.specs.ListText.{ListText}
 use Rattle.block_list.specs.declared.body.ListBody.{ListBody}
-use Rattle.block_list.proofs.BodyLemmas.{few_blocks, few_loose, few_segments, length-text}
+use Rattle.block_list.proofs.BodyLemmas.{length-text}
 use Rattle.store_state.specs.Edited.{Edit, IsEdited, one_of}
 use Rattle.store_state.specs.Loose.{flush_part}
 use Rattle.store_state.specs.declared.listing.FlushFiles.{FlushFiles}
@@ -35,12 +33,3 @@ text_fits room list edit next others counted fits is =
     let size = fits.3.text in
     let text = length-text next in
     omega (arith, counted, blocks, segments, all, block, segment, some, few, size, text)
-
--- the text of a list is short
-pub text_short : (text : ListText) (body : ListBody) → IsListText text body → 1 + length text.text < 2 ^ 63
-text_short text body is =
-    let same : length text.text ≡ length (text_of body) = ap (λ (l : List ℕ). length l) is.text in
-    let segments = few_segments body is.rules in
-    let blocks = few_blocks body is.rules in
-    let loose = few_loose body is.rules in
-    omega (arith, same, length-text body, segments, blocks, loose)

@@ -17,7 +17,7 @@ use Rattle.store_state.specs.Calls.{MadeCalls, RoseAtMost}
 use Rattle.store_state.specs.Shown.{AreBlocks, IsLookTaken}
 use Rattle.store_state.specs.Written.{IsPageRead}
 use Rattle.store_images.specs.Stored.{IsTidy}
-use Rattle.store_core.specs.Files.{IsEmptied}
+use Rattle.store_files.specs.Files.{IsEmptied}
 use Rattle.store_core.specs.declared.store.Core.{Core}
 use Rattle.store_model.proofs.TellsHistory.{step_tells}
 use Rattle.store_model.specs.Told.{history_after}

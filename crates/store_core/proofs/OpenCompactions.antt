@@ -5,8 +5,9 @@ use Rattle.store_model.specs.Sound.{times}
 use Rattle.store_model.specs.Holds.{IsOpenCompact}
 use Rattle.store_model.specs.Step.{Machine}
 use Rattle.store_model.proofs.Numbers.{times_itself}
-use Rattle.store_core.specs.Jobs.{ShowsCompaction, IsSpare}
-use Rattle.store_core.specs.Pins.{is_taken, files_at}
+use Rattle.store_core.specs.Jobs.{ShowsCompaction}
+use Rattle.store_files.specs.Loose.{IsSpare}
+use Rattle.store_files.specs.Pins.{is_taken, files_at}
 use Rattle.store_core.specs.declared.jobs.OpenCompaction.{OpenCompaction}
 use Rattle.store_core.specs.declared.state.CoreState.{CoreState}
 use Rattle.store_core.specs.Cores.{HasState}

@@ -14,7 +14,8 @@ use Rattle.store_state.specs.Given.{IsJobOf}
 use Rattle.store_state.specs.Given.IsJobOf.{OfFlush, OfCompact}
 use Rattle.store_state.specs.Loose.{AreFilesOf}
 use Rattle.store_state.specs.declared.jobs.JobFile.{JobFile}
-use Rattle.store_core.specs.Jobs.{ShowsFlush, IsSpare}
+use Rattle.store_core.specs.Jobs.{ShowsFlush}
+use Rattle.store_files.specs.Loose.{IsSpare}
 use Rattle.store_core.specs.declared.jobs.OpenFlush.{OpenFlush}
 use Rattle.store_core.specs.declared.state.CoreState.{CoreState}
 use Rattle.store_core.specs.Cores.{HasState}

@@ -31,19 +31,20 @@ use Rattle.store_images.specs.Settled.{IsSettled}
 use Rattle.store_images.proofs.Lists.{not_in_nil}
 use Rattle.store_images.proofs.Storing.{settled_now, last_first}
 use Rattle.store_core.specs.declared.state.CoreState.{CoreState}
-use Rattle.store_core.specs.Pins.{is_taken, files_at}
-use Rattle.store_core.specs.Cores.{AreDescribed, HasState, StandsFor, segment_of, tail_of}
+use Rattle.store_files.specs.Pins.{is_taken, files_at}
+use Rattle.store_core.specs.Cores.{HasState, StandsFor, segment_of}
+use Rattle.store_files.specs.Described.{AreDescribed}
+use Rattle.store_files.specs.LogReading.{tail_of, LogRead}
 use Rattle.store_core.specs.InUse.{AreInUse}
 use Rattle.store_core.specs.Waiting.{rows_outside, AreLogged}
-use Rattle.store_core.specs.Loose.{without_loose, list_after, used_files}
-use Rattle.store_core.specs.LogReading.{LogRead}
+use Rattle.store_files.specs.Loose.{without_loose, list_after, used_files}
 use Rattle.store_core.specs.Opening.{opened_state, IsOpenedState}
-use Rattle.store_core.proofs.LooseFiles.{distinct_front, rules_without}
-use Rattle.store_core.proofs.ReadBlocks.{files_of_refs, same_block_files}
+use Rattle.store_files.proofs.LooseFiles.{distinct_front, rules_without}
+use Rattle.store_files.proofs.ReadBlocks.{files_of_refs, same_block_files}
 use Rattle.store_core.proofs.InUse.{used_listed}
-use Rattle.store_core.proofs.LogLaws.{one_log}
+use Rattle.store_files.proofs.LogLaws.{one_log}
 use Rattle.store_core.proofs.NextLists.{NamesState}
-use Rattle.store_core.proofs.LogSteps.{read_size}
+use Rattle.store_files.proofs.LogSteps.{read_size}
 use Rattle.store_core.proofs.Revived.{live_of_arrived}
 use Rattle.store_core.specs.Jobs.{ShowsFlush, ShowsCompaction}
 use Rattle.store_core.specs.declared.jobs.OpenFlush.{OpenFlush}

@@ -29,22 +29,24 @@ use Rattle.store_images.proofs.Logs.{log_same}
 use Rattle.store_images.proofs.Keeping.{blocks_same, one_list, loaded, keeps_then}
 use Rattle.store_core.specs.declared.state.CoreState.{CoreState}
 use Rattle.store_core.specs.declared.store.Core.{Core}
-use Rattle.store_core.specs.BlockReading.{BlocksRead}
-use Rattle.store_core.specs.Cores.{AreDescribed, ListsBlocks, StandsFor, CoreStandsFor, listed_as, tail_of}
-use Rattle.store_core.specs.LogReading.{LogRead}
+use Rattle.store_files.specs.BlockReading.{BlocksRead, listed_as}
+use Rattle.store_core.specs.Cores.{ListsBlocks, StandsFor, CoreStandsFor}
+use Rattle.store_files.specs.Described.{AreDescribed}
+use Rattle.store_files.specs.LogReading.{tail_of, LogRead}
 use Rattle.store_core.specs.New.{IsEmptyHistory, StoresNothing}
 use Rattle.store_core.specs.NewCore.{new_machine}
-use Rattle.store_core.specs.Opening.{KeepsDisk, opened_state, BeginsAs, BeginsEmpty, Opened, OpensAs, OpensOver, IsOpenedState}
+use Rattle.store_core.specs.Opening.{opened_state, BeginsAs, BeginsEmpty, Opened, OpensAs, OpensOver, IsOpenedState}
+use Rattle.store_files.specs.Loose.{KeepsDisk}
 use Rattle.store_core.proofs.Frames.{empty_fit}
 use Rattle.store_core.proofs.Now.{StandsNow, stands_now}
 use Rattle.store_core.proofs.Founding.{empty_history, nothing_keeps}
 use Rattle.store_core.proofs.NewCores.{no_history, no_history_is_empty}
-use Rattle.store_core.proofs.LogLaws.{one_log}
-use Rattle.store_core.proofs.LogSteps.{read_whole}
+use Rattle.store_files.proofs.LogLaws.{one_log}
+use Rattle.store_files.proofs.LogSteps.{read_whole}
 use Rattle.store_core.proofs.Described.{described_same, none_described}
 use Rattle.store_core.proofs.ListedBlocks.{whole_listed}
-use Rattle.store_core.proofs.LooseFiles.{block_used, stands_moved, used_low}
-use Rattle.store_core.proofs.ReadBlocks.{BlocksFound, block_in_list, blocks_found, one_blocks, same_block_files, told_refs, told_rows}
+use Rattle.store_files.proofs.LooseFiles.{block_used, stands_moved, used_low}
+use Rattle.store_files.proofs.ReadBlocks.{BlocksFound, block_in_list, blocks_found, one_blocks, same_block_files, told_refs, told_rows}
 use Rattle.store_state.specs.Shown.{told_block}
 use Rattle.store_core.proofs.OpenedStates.{opened_machine, opened_stands, base_of, low_floor, agrees_base, agrees_kept, agrees_stored, base_once}
 use Rattle.store_core.proofs.OpeningSteps.{IsFound, found, segment_low}

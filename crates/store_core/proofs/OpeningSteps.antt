@@ -29,18 +29,18 @@ use Rattle.store_images.specs.Settled.{Tail, IsSettled}
 use Rattle.store_images.proofs.Lists.{at_front, behind, in_cons, in_map, not_in_nil}
 use Rattle.store_images.proofs.Logs.{log_same}
 use Rattle.store_images.proofs.Keeping.{blocks_same, one_list, given_out, segment_named}
-use Rattle.store_core.specs.Loose.{without_loose, used_files}
-use Rattle.store_core.specs.LogReading.{LogRead, SegmentBreaks, LogBreaks}
-use Rattle.store_core.specs.declared.error.OpenError.TheVariants.{NotStore, Fault}
-use Rattle.store_core.specs.BlockReading.{AreWhole}
+use Rattle.store_files.specs.Loose.{without_loose, used_files}
+use Rattle.store_files.specs.LogReading.{LogRead, SegmentBreaks, LogBreaks}
+use Rattle.store_files.specs.declared.error.OpenError.TheVariants.{NotStore, Fault}
+use Rattle.store_files.specs.BlockReading.{AreWhole}
 use Rattle.store_core.specs.Opening.{ListBreaks, StoreBreaks, refusal_of}
 use Rattle.store_core.specs.Opening.ListBreaks.{block, log}
 use Rattle.store_core.specs.Opening.StoreBreaks.{slot, listed}
-use Rattle.store_core.proofs.LogLaws.{one_log, unbroken}
-use Rattle.store_core.proofs.LogSteps.{read_whole, read_size}
-use Rattle.store_core.proofs.LooseFiles.{block_used, loose_apart, segment_used, used_low}
+use Rattle.store_files.proofs.LogLaws.{one_log, unbroken}
+use Rattle.store_files.proofs.LogSteps.{read_whole, read_size}
+use Rattle.store_files.proofs.LooseFiles.{block_used, loose_apart, segment_used, used_low}
 use Rattle.store_core.proofs.OpenedStates.{without_by}
-use Rattle.store_core.proofs.ReadBlocks.{blocks_break_same, blocks_unbroken, one_blocks, stand_whole, whole_same}
+use Rattle.store_files.proofs.ReadBlocks.{blocks_break_same, blocks_unbroken, one_blocks, stand_whole, whole_same}
 
 -- ---- what a list stands for
 

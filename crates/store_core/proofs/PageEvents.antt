@@ -22,12 +22,13 @@ use Rattle.store_state.specs.Written.{page_of}
 use Rattle.store_images.specs.Stored.{KeepsStored}
 use Rattle.store_images.proofs.Keeping.{keeps_same}
 use Rattle.store_core.specs.declared.store.Core.{Core}
-use Rattle.store_core.specs.Cores.{StandsFor, tail_of}
+use Rattle.store_core.specs.Cores.{StandsFor}
+use Rattle.store_files.specs.LogReading.{tail_of}
 use Rattle.page_cache.specs.Frames.{Frame}
 use Rattle.store_core.proofs.Now.{FramesMoved, StandsNow}
 use Rattle.store_core.specs.Events.{Did}
-use Rattle.store_core.specs.Files.{read_over}
-use Rattle.store_core.proofs.Apart.{below_same, settled_below}
+use Rattle.store_files.specs.Files.{read_over}
+use Rattle.store_files.proofs.Apart.{below_same, settled_below}
 use Rattle.store_core.proofs.Counted.{Counted, counted_none, counted_fine, counted_fault, counted_rose}
 use Rattle.store_core.proofs.Kept.{stands_kept, did_kept, described_below}
 use Rattle.store_core.proofs.Logged.{logged_kept}

@@ -7,7 +7,7 @@ use Rattle.store_model.specs.Step.{Machine}
 use Rattle.store_model.proofs.Numbers.{times-append, named, among as is_named, equal_itself, all_left, not_named}
 use Rattle.store_core.specs.Cores.{HasState}
 use Rattle.store_core.specs.NextList.{IsParted}
-use Rattle.store_core.specs.Pins.{files_at}
+use Rattle.store_files.specs.Pins.{files_at}
 use Rattle.store_core.specs.declared.state.CoreState.{CoreState}
 use Rattle.store_core.proofs.HeldFiles.{pinned_within, none_left}
 use Rattle.store_core.proofs.InUse.{contained_once, once_contained}

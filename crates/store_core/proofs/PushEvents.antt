@@ -24,7 +24,8 @@ use Rattle.store_images.specs.Stored.{MayStandFor, IsTidy}
 use Rattle.store_images.specs.Settled.{Tail, IsSettled}
 use Rattle.store_images.proofs.Storing.{only_tail, settled_after}
 use Rattle.store_core.specs.declared.store.Core.{Core}
-use Rattle.store_core.specs.Cores.{HasState, tail_of, unsure_of}
+use Rattle.store_core.specs.Cores.{HasState, unsure_of}
+use Rattle.store_files.specs.LogReading.{tail_of}
 use Rattle.store_core.proofs.Counted.{calls_fine, calls_fault, calls_rose, calls_exact, calls_most, calls_unread}
 use Rattle.store_core.proofs.ListedBlocks.{whole_kept}
 use Rattle.store_core.proofs.Now.{StandsNow, did_since}

@@ -20,7 +20,8 @@ use Rattle.store_images.specs.Settled.{Tail, IsSettled}
 use Rattle.store_images.proofs.Lists.{not_in_nil, in_cons}
 use Rattle.store_images.proofs.Storing.{settled_either, settled_tidy}
 use Rattle.store_core.specs.declared.state.CoreState.{CoreState}
-use Rattle.store_core.specs.Cores.{HasState, StandsFor, AreDescribed, segment_of}
+use Rattle.store_core.specs.Cores.{HasState, StandsFor, segment_of}
+use Rattle.store_files.specs.Described.{AreDescribed}
 use Rattle.store_core.proofs.Described.{described_same}
 use Rattle.store_core.specs.Jobs.{HasFreshSegment}
 use Rattle.store_core.specs.declared.jobs.OpenFlush.{OpenFlush}

@@ -27,13 +27,14 @@ use Rattle.store_model.specs.Step.Step.{Sure, Succeeds, Lacks, Breaks}
 use Rattle.store_model.proofs.Numbers.{same_number}
 use Rattle.store_state.specs.Calls.{RoseAtMost, reclaim_calls}
 use Rattle.store_images.specs.Stored.{KeepsStored}
-use Rattle.store_core.specs.Cores.{HasState, StateShows, tail_of}
+use Rattle.store_core.specs.Cores.{HasState, StateShows}
+use Rattle.store_files.specs.LogReading.{tail_of}
 use Rattle.store_core.specs.Frames.{IsKept}
 use Rattle.store_core.proofs.KeptFiles.{kept_high, kept_full}
 use Rattle.store_core.proofs.Now.{StandsNow}
 use Rattle.store_core.specs.Events.{Did}
 use Rattle.store_core.specs.Jobs.{HasFreshSegment, files_of_flush, files_of_compaction}
-use Rattle.store_core.specs.Loose.{MayEmpty, OthersStay, used_files}
+use Rattle.store_files.specs.Loose.{MayEmpty, OthersStay, used_files}
 use Rattle.store_core.specs.NextList.{IsParted}
 use Rattle.store_core.specs.declared.jobs.Jobs.{Jobs}
 use Rattle.store_core.specs.declared.jobs.OpenFlush.{OpenFlush}
@@ -43,7 +44,7 @@ use Rattle.store_core.proofs.HeldFiles.{held_used, held_kept}
 use Rattle.store_core.proofs.InUse.{contained_once}
 use Rattle.store_core.proofs.Counted.{calls_fine, calls_fault, calls_rose, calls_exact, calls_unread}
 use Rattle.store_core.proofs.Kept.{stands_kept, did_kept}
-use Rattle.store_core.proofs.LooseFiles.{used_low}
+use Rattle.store_files.proofs.LooseFiles.{used_low}
 use Rattle.store_core.proofs.NextLists.{uses_are}
 use Rattle.store_core.proofs.OpenJobs.{fresh_moved, segment_of_known}
 use Rattle.store_core.proofs.PushEvents.{OnlyNow, refused_is}

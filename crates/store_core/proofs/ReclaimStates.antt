@@ -23,9 +23,9 @@ use Rattle.store_state.specs.Parted.{outside}
 use Rattle.store_state.proofs.Listings.{inside_none, outside_none}
 use Rattle.store_images.proofs.Lists.{at_front, behind}
 use Rattle.store_core.specs.Cores.{HasState}
-use Rattle.store_core.specs.Jobs.{JobsFit, IsSpare, CommitFits, HasCommitRoom, files_of_flush, files_of_compaction, open_jobs}
+use Rattle.store_core.specs.Jobs.{JobsFit, CommitFits, HasCommitRoom, files_of_flush, files_of_compaction, open_jobs}
+use Rattle.store_files.specs.Loose.{IsSpare, next_with}
 use Rattle.store_core.specs.NextList.{IsParted, kept_edit}
-use Rattle.store_core.specs.Loose.{next_with}
 use Rattle.store_core.specs.declared.jobs.Jobs.{Jobs}
 use Rattle.store_core.specs.declared.jobs.OpenFlush.{OpenFlush}
 use Rattle.store_core.specs.declared.jobs.OpenCompaction.{OpenCompaction}

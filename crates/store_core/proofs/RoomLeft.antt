@@ -12,7 +12,8 @@ use Rattle.store_model.specs.State.{Flush, Compaction, flush_files, compaction_f
 use Rattle.store_state.specs.Edited.{Edit, IsEdited}
 use Rattle.store_state.proofs.Listings.{edited_lengths}
 use Rattle.store_images.proofs.Lists.{at_front, behind}
-use Rattle.store_core.specs.Jobs.{ShowsFlush, ShowsCompaction, IsSpare, JobsFit, CommitFits, HasCommitRoom, open_jobs, one_if, files_of_flush, files_of_compaction}
+use Rattle.store_core.specs.Jobs.{ShowsFlush, ShowsCompaction, JobsFit, CommitFits, HasCommitRoom, open_jobs, one_if, files_of_flush, files_of_compaction}
+use Rattle.store_files.specs.Loose.{IsSpare}
 use Rattle.store_core.specs.declared.jobs.Jobs.{Jobs}
 use Rattle.store_core.specs.declared.jobs.OpenFlush.{OpenFlush}
 use Rattle.store_core.specs.declared.jobs.OpenCompaction.{OpenCompaction}

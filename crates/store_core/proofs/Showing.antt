@@ -16,7 +16,8 @@ use Rattle.store_state.specs.Written.{AreBlocksOf, HoldRows}
 use Rattle.store_state.specs.Shown.{ShowsHistory, IsLookTaken}
 use Rattle.store_state.specs.declared.jobs.Look.{Look}
 use Rattle.store_core.specs.declared.state.CoreState.{CoreState}
-use Rattle.store_core.specs.Cores.{StandsFor, rows_by_block}
+use Rattle.store_core.specs.Cores.{StandsFor}
+use Rattle.store_files.specs.Described.{rows_by_block}
 use Rattle.store_core.proofs.Described.{described_holds}
 use Rattle.store_core.proofs.Looking.{waiting_in}
 

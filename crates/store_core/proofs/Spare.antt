@@ -19,15 +19,15 @@ use Rattle.store_images.proofs.Logs.{log_same}
 use Rattle.store_images.proofs.Keeping.{rules_in, given_out, blocks_same}
 use Rattle.store_model.specs.Event.{Event, Reply}
 use Rattle.store_model.specs.Step.{Machine, Step}
-use Rattle.store_core.specs.Cores.{HasState, AreDescribed}
-use Rattle.store_core.specs.Jobs.{IsSpare}
+use Rattle.store_core.specs.Cores.{HasState}
+use Rattle.store_files.specs.Described.{AreDescribed}
+use Rattle.store_files.specs.Loose.{IsSpare, used_files}
 use Rattle.store_core.specs.Waiting.{rows_outside, AreLogged}
 use Rattle.store_core.specs.declared.state.CoreState.{CoreState}
 use Rattle.store_core.proofs.Described.{described_same}
 use Rattle.store_core.proofs.Logged.{logged_same, step_fewer}
-use Rattle.store_core.proofs.Apart.{list_low, below_change, keeps_below}
-use Rattle.store_core.specs.Loose.{used_files}
-use Rattle.store_core.proofs.LooseFiles.{loose_apart, loose_named, segment_used, block_used, emptied_keeps}
+use Rattle.store_files.proofs.Apart.{list_low, below_change, keeps_below}
+use Rattle.store_files.proofs.LooseFiles.{loose_apart, loose_named, segment_used, block_used, emptied_keeps, renewed}
 
 pub spare_low : (body : ListBody) → MeetsRules body → (file : ℕ) → IsSpare body file → 2 ≤ file
 spare_low body rules file (inl above) = let least = list_low body rules in omega (arith, least, above)
@@ -50,10 +50,6 @@ SameUsed body old new = (file : ℕ) → Contains (used_files body) file → byt
 
 pub used_besides : (body : ListBody) → MeetsRules body → (file : ℕ) (old new : Image) → IsSpare body file → Besides file old new → SameUsed body old new
 used_besides body rules file old new spare besides = λ other used. besides other (spare_apart body rules file other spare used)
-
--- the list that has the same segments, blocks and floor
-abbrev pub renewed : ListBody → ℕ → ℕ → List ℕ → ListBody
-renewed body generation next_file loose = record body { generation = generation; next_file = next_file; loose = loose }
 
 -- A settled disk stays settled by such a list, where the segments and blocks stay as they were.
 module _ (held later : Image) (may_leave may_later : Image → Type 0) (body : ListBody) (generation next_file : ℕ) (loose : List ℕ) (same : SameUsed body held later)

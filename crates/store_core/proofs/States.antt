@@ -28,9 +28,11 @@ use Rattle.store_images.proofs.Storing.{settled_now}
 use Rattle.store_core.specs.declared.state.CoreState.{CoreState}
 use Rattle.store_core.specs.declared.jobs.Jobs.{Jobs}
 use Rattle.store_core.specs.Jobs.{HasFreshSegment, SameJobs}
-use Rattle.store_core.specs.Pins.{is_taken, files_at}
+use Rattle.store_files.specs.Pins.{is_taken, files_at}
 use Rattle.store_core.proofs.JobRooms.{compaction_shown, fit_kept, flush_shown, same_jobs}
-use Rattle.store_core.specs.Cores.{HasState, StandsFor, AreDescribed, tail_of}
+use Rattle.store_core.specs.Cores.{HasState, StandsFor}
+use Rattle.store_files.specs.Described.{AreDescribed}
+use Rattle.store_files.specs.LogReading.{tail_of}
 use Rattle.store_core.specs.Waiting.{rows_outside, AreLogged}
 use Rattle.store_core.proofs.Logged.{logged_still}
 

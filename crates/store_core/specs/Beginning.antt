@@ -12,7 +12,7 @@ use Rattle.store_state.specs.declared.jobs.Pin.{Pin}
 use Rattle.store_model.specs.Event.{Reply}
 use Rattle.store_model.specs.Event.Reply.{Nothing}
 use Rattle.store_core.specs.Jobs.{JobsFit, CommitFits, HaveRoomFor, HasCommitRoom, SameJobs}
-use Rattle.store_core.specs.Pins.{is_taken, files_at}
+use Rattle.store_files.specs.Pins.{is_taken, files_at}
 use Rattle.store_core.specs.declared.jobs.Jobs.{Jobs}
 use Rattle.store_core.specs.declared.room.CommitRoom.{CommitRoom}
 use Rattle.store_core.specs.declared.state.CoreState.{CoreState}

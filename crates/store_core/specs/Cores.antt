@@ -1,27 +1,25 @@
 -- What a core stands for: a machine of the store's model, which its memory shows in part, and a history that its disk holds.
 use Rattle.std.specs.Prelude.{◌≡◌, ℕ, ◌+◌, ◌≤◌, List, [], ◌∷◌, ◌++◌, map, length, Option, None, IsTrue}
 use Rattle.std.specs.Option.{option_map}
-use Rattle.span_types.specs.declared.spans.Row.{Row}
 use Rattle.disk_model.specs.Images.{Image, bytes_of}
 use Rattle.disk_model.specs.declared.disk.Device.{Ghosts}
-use Rattle.head_log.specs.declared.segment.Segment.{Segment}
-use Rattle.block_info.specs.InfoParts.{InfoParts}
 use Rattle.block_list.specs.Body.{MeetsRules}
-use Rattle.block_list.specs.declared.body.BlockRef.{BlockRef}
 use Rattle.block_list.specs.declared.body.SegmentRef.{SegmentRef}
 use Rattle.store_entries.specs.declared.entry.Entry.{Entry}
 use Rattle.store_model.specs.History.{count_of, push_of}
-use Rattle.store_model.specs.State.{Block, Segment as ModelSegment, pin_numbers, block_files, flush_rows, pinned_blocks, is_among}
+use Rattle.store_model.specs.State.{Segment as ModelSegment, pin_numbers, block_files, flush_rows, pinned_blocks, is_among}
 use Rattle.store_model.specs.Step.{Machine}
 use Rattle.store_model.specs.Laws.{Agrees}
 use Rattle.store_model.specs.Sound.{StateIsSound}
 use Rattle.store_model.specs.Told.{IsAboveFloor}
 use Rattle.store_state.specs.Given.{info_files}
 use Rattle.store_state.specs.Shown.{AreBlocks}
-use Rattle.store_state.specs.Written.{AreBlocksOf}
 use Rattle.store_images.specs.Stored.{MayStandFor, ref_of}
-use Rattle.store_images.specs.Settled.{Tail, IsSettled}
-use Rattle.store_core.specs.Pins.{is_taken, files_at}
+use Rattle.store_images.specs.Settled.{IsSettled}
+use Rattle.store_files.specs.BlockReading.{listed_as}
+use Rattle.store_files.specs.Described.{AreDescribed}
+use Rattle.store_files.specs.LogReading.{tail_of}
+use Rattle.store_files.specs.Pins.{is_taken, files_at}
 use Rattle.store_core.specs.Jobs.{ShowsFlush, ShowsCompaction, JobsFit, HasCommitRoom, HasFreshSegment}
 use Rattle.store_core.specs.Waiting.{rows_outside, AreLogged}
 use Rattle.store_core.specs.InUse.{AreInUse}
@@ -30,26 +28,12 @@ use Rattle.store_core.specs.Frames.{FramesFit}
 use Rattle.store_core.specs.declared.state.CoreState.{CoreState}
 use Rattle.store_core.specs.declared.store.Core.{Core}
 
-abbrev pub tail_of : Segment → Tail
-tail_of segment = record { file = segment.file; first = segment.first; count = segment.count; gate = segment.gate }
-
 -- the entry whose call answered a fault
 abbrev pub unsure_of : CoreState → Option Entry
 unsure_of core = option_map (λ ready. push_of ready.spans) core.unsure
 
 abbrev pub segment_of : SegmentRef → ModelSegment
 segment_of ref = record { file = ref.file; first = ref.first }
-
--- how a list names the block of which this is known
-abbrev pub listed_as : InfoParts → BlockRef
-listed_as info = record { file = info.file; level = info.level; rows = info.rows }
-
-abbrev pub rows_by_block : List Block → List (List Row)
-rows_by_block blocks = map (λ block. block.rows) blocks
-
--- The file of each block is a block of its rows, which the information at the same place describes.
-abbrev pub AreDescribed : Image → List InfoParts → List Block → Type 0
-AreDescribed held infos blocks = AreBlocksOf (λ file. bytes_of held file) infos (rows_by_block blocks)
 
 -- how many rows the core's memory holds outside of blocks, repeats among them
 abbrev pub held_in : {D : Type 0} → Core D → ℕ

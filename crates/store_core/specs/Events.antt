@@ -22,7 +22,7 @@ use Rattle.store_state.specs.Shown.{IsLookTaken}
 use Rattle.store_state.specs.Written.{IsPageRead}
 use Rattle.store_images.specs.Stored.{MayStandFor, IsTidy}
 use Rattle.store_core.specs.Cores.{CoreStandsFor, CoreShows, unsure_of}
-use Rattle.store_core.specs.Files.{IsEmptied}
+use Rattle.store_files.specs.Files.{IsEmptied}
 use Rattle.store_core.specs.declared.state.CoreState.{CoreState}
 use Rattle.store_core.specs.declared.store.Core.{Core}
 

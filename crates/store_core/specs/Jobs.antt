@@ -1,6 +1,5 @@
 -- What a core keeps of jobs: the open flush, the open compaction, and which files were given out.
-use Rattle.std.specs.Prelude.{◌≡◌, ◌⊎◌, ℕ, ◌+◌, ◌*◌, ◌≤◌, List, [], ◌∷◌, length, Option, Some, None, IfSome, Vec}
-use Rattle.std.specs.List.{Contains}
+use Rattle.std.specs.Prelude.{◌≡◌, ℕ, ◌+◌, ◌*◌, ◌≤◌, List, [], ◌∷◌, length, Option, Some, None, IfSome, Vec}
 use Rattle.std.specs.Vec.{vec_len, vec_capacity}
 use Rattle.std.specs.declared.alloc.Global.{Global}
 use Rattle.disk_model.specs.Images.{Image, bytes_of}
@@ -10,6 +9,7 @@ use Rattle.block_info.specs.InfoParts.{InfoParts}
 use Rattle.block_list.specs.declared.body.ListBody.{ListBody}
 use Rattle.store_model.specs.State.{Flush, Compaction}
 use Rattle.store_state.specs.Loose.{AreFilesOf}
+use Rattle.store_files.specs.Loose.{IsSpare}
 use Rattle.store_core.specs.declared.jobs.Jobs.{Jobs}
 use Rattle.store_core.specs.declared.jobs.OpenFlush.{OpenFlush}
 use Rattle.store_core.specs.declared.jobs.OpenCompaction.{OpenCompaction}
@@ -34,11 +34,6 @@ one_if (Some job) = 1
 -- how many jobs are open
 abbrev pub open_jobs : Jobs → ℕ
 open_jobs jobs = one_if jobs.flush + one_if jobs.compaction
-
--- The file is neither a segment nor a block of the list: it was given out since the list was committed, or the list names it as
--- loose, as one does that was committed while its job was open.
-abbrev pub IsSpare : ListBody → ℕ → Type 0
-IsSpare list file = (list.next_file ≤ file) ⊎ Contains list.loose file
 
 -- The files of open jobs are spare ones of the list. Among the loose files there is room for what open jobs add, by their commits
 -- or by being given up, in any order: each adds two files at most, and each segment and each block may become loose.

@@ -8,7 +8,7 @@ use Rattle.store_state.specs.Kept.{Kept}
 use Rattle.store_state.specs.Written.{AreBlocksOf}
 use Rattle.store_core.specs.declared.state.CoreState.{CoreState}
 use Rattle.store_core.specs.declared.store.Core.{Core}
-use Rattle.store_core.specs.Cores.{rows_by_block}
+use Rattle.store_files.specs.Described.{rows_by_block}
 use Rattle.store_core.specs.Waiting.{rows_outside}
 
 -- the rows in memory outside of blocks: those of an open flush, those of the head, and those of live traces

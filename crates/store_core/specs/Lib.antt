@@ -1,5 +1,3 @@
-pub mod Pins
-pub mod Files
 pub mod Jobs
 pub mod NextList
 pub mod Waiting
@@ -12,9 +10,6 @@ pub mod Events
 pub mod Past
 pub mod New
 pub mod NewCore
-pub mod LogReading
-pub mod BlockReading
-pub mod Loose
 pub mod Opening
 pub mod Kept
 pub mod Port

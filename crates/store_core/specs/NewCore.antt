@@ -4,7 +4,8 @@ use Rattle.store_model.specs.History.{History}
 use Rattle.store_model.specs.Step.{Machine}
 use Rattle.store_core.specs.Jobs.{HasNoJobs}
 use Rattle.store_core.specs.New.{new_list, new_tail, IsEmptyHistory}
-use Rattle.store_core.specs.Cores.{HasState, tail_of, unsure_of}
+use Rattle.store_core.specs.Cores.{HasState, unsure_of}
+use Rattle.store_files.specs.LogReading.{tail_of}
 use Rattle.store_core.specs.declared.state.CoreState.{CoreState}
 
 -- no rows, one segment, and no job or pin

@@ -12,7 +12,7 @@ use Rattle.store_core.specs.declared.jobs.Jobs.{Jobs}
 use Rattle.store_core.specs.declared.jobs.OpenCompaction.{OpenCompaction}
 use Rattle.store_core.specs.declared.state.CoreState.{CoreState}
 use Rattle.store_core.specs.Jobs.{files_of_flush, files_of_compaction}
-use Rattle.store_core.specs.Pins.{files_at}
+use Rattle.store_files.specs.Pins.{files_at}
 
 -- Of these loose files those that a pin names, and the others, each in their order.
 pub record IsParted (pins : List (Option (List ℕ))) (loose kept free : List ℕ) : Type 0 where

@@ -18,22 +18,18 @@ use Rattle.store_model.specs.State.{State, Block}
 use Rattle.store_model.specs.After.{arrived}
 use Rattle.store_model.specs.Step.{Machine}
 use Rattle.store_images.specs.Log.{LogHolds}
-use Rattle.store_images.specs.Stored.{BlocksStand, ImageStandsFor, IsSoundImage, KeepsStored, first_number, ref_of}
-use Rattle.store_core.specs.BlockReading.{AreWhole, BlocksBreak}
-use Rattle.store_core.specs.Cores.{CoreStandsFor, CoreShows, listed_as, segment_of, unsure_of}
+use Rattle.store_images.specs.Stored.{BlocksStand, ImageStandsFor, IsSoundImage, first_number, ref_of}
+use Rattle.store_files.specs.BlockReading.{AreWhole, BlocksBreak, listed_as}
+use Rattle.store_core.specs.Cores.{CoreStandsFor, CoreShows, segment_of, unsure_of}
 use Rattle.store_core.specs.Jobs.{HasNoJobs}
-use Rattle.store_core.specs.LogReading.{LogBreaks}
-use Rattle.store_core.specs.Loose.{without_loose}
+use Rattle.store_files.specs.LogReading.{LogBreaks}
+use Rattle.store_files.specs.Loose.{without_loose}
 use Rattle.store_core.specs.New.{new_list}
 use Rattle.store_core.specs.NewCore.{new_machine}
-use Rattle.store_core.specs.declared.error.OpenError.{OpenError}
-use Rattle.store_core.specs.declared.error.OpenError.TheVariants as errors
+use Rattle.store_files.specs.declared.error.OpenError.{OpenError}
+use Rattle.store_files.specs.declared.error.OpenError.TheVariants as errors
 use Rattle.store_core.specs.declared.state.CoreState.{CoreState}
 use Rattle.store_core.specs.declared.store.Core.{Core}
-
--- An opening, refused or not: whenever a crash comes, the image stands for what some image stood for before and for nothing else.
-abbrev pub KeepsDisk : {D : Type 0} (g : Ghosts D) → D → D → Type 0
-KeepsDisk g disk later = IsTrue (g.tells disk) → Run KeepsStored g.moment g.left_since g.may_leave disk later
 
 -- An opening that is refused for another cause than a fault: of each image at any moment, and of what a read gives, every file and
 -- every slot stays as it was, but for a slot without a list, which may be cut to its gate.

@@ -22,7 +22,6 @@ ghost use Rattle.store_core.specs.Events.{Did};
 
 use crate::committing::rows_in;
 use crate::jobs::LAST_FILE;
-use crate::pins::{free_number, give_back, take_files, take_number};
 use crate::room::CommitRoom;
 use crate::state::{CoreState, files_of};
 use crate::store::Core;
@@ -31,6 +30,7 @@ use block_list::commit;
 use disk_model::{Device, cut_through};
 use span_types::{Memory, TryCopy};
 use std::alloc::Global;
+use store_files::{free_number, give_back, take_files, take_number};
 use store_state::{BeginError, CompactJob, JobFile, Pin, WriteError, a_choice_is_few, choose};
 
 impl CoreState {

@@ -13,11 +13,11 @@ ghost use Rattle.store_core.specs.Events.{Did};
 ghost use Rattle.store_core.specs.Kept.{CoreKeeps, IsLeft};
 ghost use Rattle.store_core.specs.Port.{LookShows};
 
-use crate::pins::{free_number, take_number};
 use crate::store::Core;
 use disk_model::Device;
 use head_log::{Prepared, append};
 use span_types::{Batch, Memory};
+use store_files::{free_number, take_number};
 use store_state::{Look, Pin, PushError};
 
 impl<D: Device> Core<D> {

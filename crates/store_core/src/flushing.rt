@@ -16,11 +16,11 @@ ghost use Rattle.store_core.specs.Events.{Did};
 ghost use Rattle.store_core.specs.Beginning.{MayBegin, unless_rows};
 
 use crate::jobs::LAST_FILE;
-use crate::making::make_files;
 use crate::state::CoreState;
 use crate::store::Core;
 use block_info::MOST_BLOCK_ROWS;
 use disk_model::Device;
+use store_files::make_files;
 use store_state::{BeginError, FlushJob, JobFile, WriteError};
 
 impl CoreState {

@@ -8,9 +8,8 @@ ghost use Rattle.store_model.specs.History.{History};
 ghost use Rattle.store_core.specs.New.{new_list, IsEmptyHistory, StoresNothing, IsNewStore};
 ghost use Rattle.store_core.specs.NewCore.{new_machine, IsNewState};
 ghost use Rattle.store_core.specs.Cores.{CoreStandsFor};
-ghost use Rattle.store_core.specs.declared.error.OpenError.TheVariants.{Fault, NotStore};
+ghost use Rattle.store_files.specs.declared.error.OpenError.TheVariants.{Fault, NotStore};
 
-use crate::error::OpenError;
 use crate::jobs::Jobs;
 use crate::since::Since;
 use crate::state::CoreState;
@@ -22,6 +21,7 @@ use live_traces::Live;
 use page_cache::PageCache;
 use span_types::Memory;
 use std::alloc::Global;
+use store_files::OpenError;
 
 /// Opens a new store on a disk whose slots are vacant, with these frames for its pages. At `Ok` the core stands for each history
 /// without rows and entries.

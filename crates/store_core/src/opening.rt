@@ -17,19 +17,14 @@ ghost use Rattle.store_model.specs.History.{History, record_rows};
 ghost use Rattle.store_model.specs.State.{Block};
 ghost use Rattle.store_images.specs.Stored.{BlocksStand, ImageStandsFor, IsSoundImage, first_number, ref_of};
 ghost use Rattle.store_images.specs.Settled.{IsSettled};
-ghost use Rattle.store_core.specs.Cores.{tail_of};
-ghost use Rattle.store_core.specs.BlockReading.{BlocksRead};
-ghost use Rattle.store_core.specs.LogReading.{LogBreaks, LogRead};
-ghost use Rattle.store_core.specs.Loose.{AreFreed};
-ghost use Rattle.store_core.specs.Opening.{KeepsDisk, LeavesAlone, opened_list, Opened, IsOpenedState, ListBreaks, StoreBreaks, refusal_of};
-ghost use Rattle.store_core.specs.declared.error.OpenError.TheVariants.{Fault, NotStore};
+ghost use Rattle.store_files.specs.LogReading.{tail_of, LogBreaks, LogRead};
+ghost use Rattle.store_files.specs.BlockReading.{BlocksRead};
+ghost use Rattle.store_files.specs.Loose.{AreFreed, KeepsDisk};
+ghost use Rattle.store_core.specs.Opening.{LeavesAlone, opened_list, Opened, IsOpenedState, ListBreaks, StoreBreaks, refusal_of};
+ghost use Rattle.store_files.specs.declared.error.OpenError.TheVariants.{Fault, NotStore};
 
-use crate::blocks::read_blocks;
-use crate::error::OpenError;
 use crate::jobs::Jobs;
-use crate::loose::empty_loose;
 use crate::new_store::open_new;
-use crate::reading::read_log;
 use crate::reviving::revive;
 use crate::since::Since;
 use crate::state::CoreState;
@@ -41,6 +36,7 @@ use head_log::Segment;
 use live_traces::Live;
 use page_cache::PageCache;
 use std::alloc::Global;
+use store_files::{OpenError, empty_loose, read_blocks, read_log};
 
 impl<D: Device> Core<D> {
     /// Opens the store that a disk holds, or a new one where both slots of its list are vacant. The moment, in nanoseconds, is that

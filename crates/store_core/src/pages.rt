@@ -12,7 +12,7 @@ ghost use Rattle.store_state.specs.Replies.{page_reply};
 ghost use Rattle.store_state.specs.Written.{page_of};
 ghost use Rattle.store_core.specs.Cores.{CoreShows};
 ghost use Rattle.store_core.specs.Events.{Did};
-ghost use Rattle.store_core.specs.Files.{read_over};
+ghost use Rattle.store_files.specs.Files.{read_over};
 ghost use Rattle.store_core.specs.Frames.{IsReadThrough};
 ghost use Rattle.store_core.specs.Kept.{IsLeft};
 

@@ -11,14 +11,13 @@ ghost use Rattle.store_state.specs.Replies.{reclaim_reply};
 ghost use Rattle.store_core.specs.Events.{Did};
 ghost use Rattle.store_core.specs.NextList.{kept_edit, IsParted};
 
-use crate::loose::commit_without;
-use crate::pins::pinned_files;
 use crate::state::CoreState;
 use crate::store::Core;
 use block_list::{ListBody, PreparedList, prepare_any};
 use disk_model::Device;
 use span_types::Memory;
 use std::alloc::Global;
+use store_files::{commit_without, pinned_files};
 use store_state::{ListEdit, ListRoom, ReclaimError, edited};
 
 impl<D: Device> Core<D> {

@@ -20,7 +20,8 @@ use Rattle.store_model.proofs.TellsHistory.{step_tells}
 use Rattle.store_images.specs.Stored.{ImageStandsFor, KeepsStored, MayStandFor}
 use Rattle.store_core.specs.Cores.{CoreStandsFor, unsure_of}
 use Rattle.store_core.specs.Events.{Did, Between, unsure_after}
-use Rattle.store_core.specs.Opening.{KeepsDisk, Opened}
+use Rattle.store_core.specs.Opening.{Opened}
+use Rattle.store_files.specs.Loose.{KeepsDisk}
 use Rattle.store_core.specs.declared.store.Core.{Core}
 use Rattle.store_reopen.specs.Through.{GoesOn, Keeps, KeepsThrough, MayHaveAdded, Pending, StoodAmid, pending_now}
 

@@ -3,9 +3,10 @@ use Rattle.std.specs.Prelude.{◌≡◌, ◌≢◌, ℕ, ◌+◌, Result, Err, I
 use Rattle.disk_model.specs.Calls.{Counts}
 use Rattle.disk_model.specs.declared.disk.Device.{Ghosts}
 use Rattle.store_images.specs.Stored.{IsSoundImage}
-use Rattle.store_core.specs.Opening.{KeepsDisk, LeavesAlone, Opened, StoreBreaks}
-use Rattle.store_core.specs.declared.error.OpenError.{OpenError}
-use Rattle.store_core.specs.declared.error.OpenError.TheVariants.{Fault, NotStore}
+use Rattle.store_core.specs.Opening.{LeavesAlone, Opened, StoreBreaks}
+use Rattle.store_files.specs.Loose.{KeepsDisk}
+use Rattle.store_files.specs.declared.error.OpenError.{OpenError}
+use Rattle.store_files.specs.declared.error.OpenError.TheVariants.{Fault, NotStore}
 use Rattle.store_core.specs.declared.store.Core.{Core}
 use Rattle.store_reopen.specs.declared.store.Store.{Store}
 use Rattle.store_reopen.specs.declared.store.Store.TheVariants.{Open, Closed}

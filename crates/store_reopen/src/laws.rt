@@ -9,7 +9,8 @@ ghost use Rattle.store_model.specs.History.{History, count_of};
 ghost use Rattle.store_model.specs.Step.{Machine};
 ghost use Rattle.store_core.specs.Cores.{CoreStandsFor, unsure_of};
 ghost use Rattle.store_core.specs.Events.{Did};
-ghost use Rattle.store_core.specs.Opening.{KeepsDisk, Opened};
+ghost use Rattle.store_core.specs.Opening.{Opened};
+ghost use Rattle.store_files.specs.Loose.{KeepsDisk};
 ghost use Rattle.store_reopen.specs.Through.{GoesOn, Keeps, KeepsThrough, Pending, pending_now};
 
 use disk_model::Device;

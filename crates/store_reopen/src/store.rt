@@ -5,7 +5,8 @@ ghost use Rattle.store_reopen.specs.Reopened.{Reopens, disk_of, entries_of};
 
 use disk_model::Device;
 use std::alloc::Global;
-use store_core::{Core, OpenError};
+use store_core::Core;
+use store_files::OpenError;
 
 /// A store that is open, or the disk of one that is closed.
 #[derive(Drop)]

@@ -6,7 +6,7 @@ use block_build::build;
 use disk_model::{MemDisk, write_through};
 use span_types::{Bytes, Failed, Memory, Place, Row, Rows};
 use std::alloc::Global;
-use store_core::OpenError;
+use store_files::OpenError;
 
 // A slot 0 whose list names a segment in file 2, from the number 1 on, and a block in file 3, of level 0 (byte 46)
 // with so many rows (byte 47). The floor is 1 (byte 10), and the next file is 4 (byte 6).

@@ -7,7 +7,7 @@ use disk_model::{Device, MemDisk, write_through};
 use span_types::Failed;
 use std::alloc::Global;
 use std::test::Fail;
-use store_core::OpenError;
+use store_files::OpenError;
 use store_state::PushError;
 
 // The slot 0 of a new store: the next file is 3 (byte 6), the floor 0 (byte 10), and the segment in file 2 begins with

@@ -5,7 +5,8 @@ use crate::live::{another, both, many};
 use disk_model::{Device, MemDisk};
 use span_types::{Batch, Calls, Memory, Spans};
 use std::alloc::Global;
-use store_core::{Core, OpenError};
+use store_core::Core;
+use store_files::OpenError;
 use store_state::{LookPort, PushError};
 
 // What a push answers.

@@ -17,8 +17,8 @@ use Rattle.io_edges.specs.Reader.{TakesBytes}
 use Rattle.span_types.specs.Faults.{Rose}
 use Rattle.store_core.specs.NewCore.{new_machine}
 use Rattle.store_core.specs.Opening.{LeavesAlone}
-use Rattle.store_core.specs.declared.error.OpenError.{OpenError}
-use Rattle.store_core.specs.declared.error.OpenError.TheVariants as open_errors
+use Rattle.store_files.specs.declared.error.OpenError.{OpenError}
+use Rattle.store_files.specs.declared.error.OpenError.TheVariants as open_errors
 use Rattle.store_images.specs.Stored.{KeepsStored}
 use Rattle.store_images.proofs.Keeping.{keeps_same}
 use Rattle.session_text.specs.declared.reply.Reply.{Reply}

@@ -12,7 +12,8 @@ use Rattle.port_history.specs.Entries.{AreEntries, Entry, call_of, history_from}
 use Rattle.port_history.proofs.Chains.{entries_made, legal_history}
 use Rattle.session_text.specs.Items.{Item}
 use Rattle.store_core.specs.Cores.{CoreShows, CoreStandsFor, unsure_of}
-use Rattle.store_core.specs.Opening.{KeepsDisk, OpensAs, OpensOver, StoreBreaks}
+use Rattle.store_core.specs.Opening.{OpensAs, OpensOver, StoreBreaks}
+use Rattle.store_files.specs.Loose.{KeepsDisk}
 use Rattle.store_core.specs.Port.{port_of, shown_by}
 use Rattle.store_core.specs.declared.store.Core.{Core}
 use Rattle.store_entries.specs.declared.entry.Entry.{Entry as Added}

@@ -15,10 +15,11 @@ use Rattle.store_state.specs.Cores.{CoreHolds}
 use Rattle.store_images.specs.Stored.{IsTidy, KeepsStored}
 use Rattle.store_images.proofs.Lists.{not_in_nil}
 use Rattle.store_core.specs.Cores.{CoreShows, CoreStandsFor, unsure_of}
-use Rattle.store_core.specs.Opening.{KeepsDisk, OpensAs, OpensOver, StoreBreaks}
+use Rattle.store_core.specs.Opening.{OpensAs, OpensOver, StoreBreaks}
+use Rattle.store_files.specs.Loose.{KeepsDisk}
 use Rattle.store_core.specs.Port.{port_of, shown_by}
 use Rattle.store_core.specs.declared.store.Core.{Core}
-use Rattle.store_core.specs.declared.error.OpenError.{OpenError}
+use Rattle.store_files.specs.declared.error.OpenError.{OpenError}
 use Rattle.store_reopen.specs.Reopened.{Reopens, disk_of}
 use Rattle.store_reopen.specs.Through.{KeepsThrough}
 use Rattle.store_reopen.specs.declared.store.Store.{Store}

@@ -29,7 +29,8 @@ use session_meaning::Ending;
 use session_text::{Refusal, Reply, write_reply};
 use span_types::{Failed, Memory};
 use std::alloc::Global;
-use store_core::{Core, OpenError};
+use store_core::Core;
+use store_files::OpenError;
 use store_reopen::Store;
 use traceql_types::PatternMaker;
 

@@ -5,7 +5,7 @@ ghost use Rattle.std.specs.Prelude.{false, ◌≡◌, ◌⊎◌, ◌<◌, ◌≤
 ghost use Rattle.span_types.specs.Faults.{Rose};
 ghost use Rattle.io_edges.specs.Lines.{taken_limit};
 ghost use Rattle.io_edges.specs.Reader.{TakesBytes, to_come};
-ghost use Rattle.store_core.specs.declared.error.OpenError.{OpenError};
+ghost use Rattle.store_files.specs.declared.error.OpenError.{OpenError};
 ghost use Rattle.store_model.specs.Holds.{Hold};
 ghost use Rattle.store_reopen.specs.Reopened.{Reopens, disk_of};
 ghost use Rattle.session_text.specs.declared.reply.Reply.{Reply};
@@ -28,7 +28,7 @@ use session_meaning::Ending;
 use session_text::{Refusal, Reply, is_reopen, read_request, write_reply};
 use span_types::{Failed, Memory};
 use std::alloc::Global;
-use store_core::OpenError;
+use store_files::OpenError;
 use store_reopen::Store;
 use store_state::{Port, Refusal as Cause};
 use traceql_types::PatternMaker;

@@ -8,9 +8,10 @@ use Rattle.block_list.specs.declared.body.ListBody.{ListBody}
 use Rattle.block_list.proofs.ReadyLemmas.{can_lay}
 use Rattle.store_core.specs.New.{new_list}
 use Rattle.store_core.proofs.Founding.{rules_new, vacant_now, made_segment, ready_still, committed, still_two, new_settled}
-use Rattle.store_core.specs.declared.error.OpenError.TheVariants.{Fault}
-use Rattle.store_core.proofs.Counted.{counts_short, fault_answer, fine_calls, still_answer, then_answer, well_answer}
-use Rattle.store_core.proofs.NextRoom.{text_short}
+use Rattle.store_files.specs.declared.error.OpenError.TheVariants.{Fault}
+use Rattle.store_core.proofs.Counted.{counts_short}
+use Rattle.store_files.proofs.Answered.{fault_answer, fine_calls, still_answer, then_answer, well_answer}
+use Rattle.store_files.proofs.LooseFiles.{text_short}
 use Rattle.store_core.proofs.new_store.make_store.Goals as goal
 
 pub prepare-requires : goal.prepare-requires

@@ -3,8 +3,8 @@ use Rattle.block_list.specs.Loading.{IsReady}
 use Rattle.block_list.specs.declared.body.ListBody.{ListBody}
 use Rattle.store_core.proofs.NewCores.{new_stands, no_history, no_history_is_empty}
 use Rattle.store_core.specs.NewCore.{new_machine}
-use Rattle.store_core.specs.declared.error.OpenError.TheVariants.{Fault}
-use Rattle.store_core.proofs.Counted.{fine_answer, refused_answer}
+use Rattle.store_files.specs.declared.error.OpenError.TheVariants.{Fault}
+use Rattle.store_files.proofs.Answered.{fine_answer, refused_answer}
 use Rattle.store_core.proofs.Now.{stands_now}
 use Rattle.store_core.proofs.new_store.open_new.Goals as goal
 

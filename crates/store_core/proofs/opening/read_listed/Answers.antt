@@ -3,15 +3,15 @@ use Rattle.std.specs.List.{Contains}
 use Rattle.disk_model.proofs.Runs.{untouched_then}
 use Rattle.block_list.specs.declared.body.BlockRef.{BlockRef}
 use Rattle.store_images.specs.Stored.{first_number}
-use Rattle.store_core.specs.BlockReading.{BlocksBreak, BlocksRead}
-use Rattle.store_core.specs.Cores.{tail_of}
+use Rattle.store_files.specs.BlockReading.{BlocksBreak, BlocksRead}
+use Rattle.store_files.specs.LogReading.{tail_of}
 use Rattle.store_core.specs.Opening.ListBreaks.{block, log}
-use Rattle.store_core.specs.declared.error.OpenError.TheVariants.{Fault, NotStore}
-use Rattle.store_core.proofs.LogSteps.{handed_on, log_read_before}
+use Rattle.store_files.specs.declared.error.OpenError.TheVariants.{Fault, NotStore}
+use Rattle.store_files.proofs.LogSteps.{handed_on, log_read_before}
 use Rattle.store_core.proofs.OpeningSteps.{breaks_same}
-use Rattle.store_core.proofs.ReadBlocks.{read_blocks_whole}
+use Rattle.store_files.proofs.ReadBlocks.{read_blocks_whole}
 use Rattle.disk_model.proofs.CallRuns.{counts_then}
-use Rattle.store_core.proofs.Counted.{fine_answer, handed_answer, other_answer, then_answer}
+use Rattle.store_files.proofs.Answered.{fine_answer, handed_answer, other_answer, then_answer}
 use Rattle.store_core.proofs.opening.read_listed.Goals as goal
 
 pub returns-in-Err-clause-not_store : goal.returns-in-Err-clause-not_store

@@ -6,8 +6,8 @@ use Rattle.store_images.specs.Stored.{first_number}
 use Rattle.span_types.specs.declared.spans.Row.{Row}
 use Rattle.store_core.specs.Opening.{rows_from}
 use Rattle.store_core.proofs.Revived.{above_floor}
-use Rattle.store_core.specs.declared.error.OpenError.TheVariants.{Fault}
-use Rattle.store_core.proofs.Counted.{fine_answer, handed_answer, other_answer}
+use Rattle.store_files.specs.declared.error.OpenError.TheVariants.{Fault}
+use Rattle.store_files.proofs.Answered.{fine_answer, handed_answer, other_answer}
 use Rattle.store_core.proofs.opening.read_rows.Goals as goal
 
 pub returns-in-Ok-revive-clause-read : goal.returns-in-Ok-revive-clause-read

@@ -9,15 +9,15 @@ use Rattle.block_list.proofs.ReadyLemmas.{ready_quiet}
 use Rattle.store_images.specs.Stored.{KeepsStored}
 use Rattle.store_images.specs.Settled.{IsSettled}
 use Rattle.store_images.proofs.Keeping.{keeps_same, keeps_then}
-use Rattle.store_core.specs.Cores.{tail_of}
-use Rattle.store_core.specs.declared.error.OpenError.TheVariants.{Fault, NotStore}
-use Rattle.store_core.proofs.LogSteps.{handed_on}
-use Rattle.store_core.specs.Loose.{used_files}
-use Rattle.store_core.proofs.LeftFiles.{freed_same, used_not_spare}
-use Rattle.store_core.proofs.LooseFiles.{segment_used, used_low}
+use Rattle.store_files.specs.LogReading.{tail_of}
+use Rattle.store_files.specs.declared.error.OpenError.TheVariants.{Fault, NotStore}
+use Rattle.store_files.proofs.LogSteps.{handed_on}
+use Rattle.store_files.specs.Loose.{used_files}
+use Rattle.store_files.proofs.LeftFiles.{freed_same, used_not_spare}
+use Rattle.store_files.proofs.LooseFiles.{segment_used, used_low}
 use Rattle.store_core.proofs.OpeningSteps.{block_low, listed_used, segment_low, settled_again, used_by, used_stays}
 use Rattle.disk_model.proofs.CallRuns.{counts_then}
-use Rattle.store_core.proofs.Counted.{fine_answer, handed_answer, other_answer, then_answer}
+use Rattle.store_files.proofs.Answered.{fine_answer, handed_answer, other_answer, then_answer}
 use Rattle.store_core.proofs.opening.read_store.Goals as goal
 
 pub returns-in-Err-clause-not_store : goal.returns-in-Err-clause-not_store

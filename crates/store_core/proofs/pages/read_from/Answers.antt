@@ -1,6 +1,6 @@
 use Rattle.std.proofs.Common.{refl, ◌∙◌}
 use Rattle.disk_model.specs.Images.{bytes_of}
-use Rattle.store_core.proofs.Apart.{ok_then}
+use Rattle.store_files.proofs.Apart.{ok_then}
 use Rattle.store_core.proofs.PageEvents.{page_is}
 use Rattle.store_core.proofs.pages.read_from.Goals as goal
 

@@ -12,9 +12,9 @@ use Rattle.store_model.specs.Event.Reply.{Refused}
 use Rattle.store_model.specs.Event.Refusal.{Fault}
 use Rattle.store_core.specs.Events.{Did}
 use Rattle.store_core.specs.declared.store.Core.{Core}
-use Rattle.store_core.specs.Files.{SameBelow}
+use Rattle.store_files.specs.Files.{SameBelow}
 use Rattle.store_core.specs.Beginning.{MayCompact, IsMade}
-use Rattle.store_core.proofs.Apart.{below_change, emptied}
+use Rattle.store_files.proofs.Apart.{below_change, emptied}
 use Rattle.store_core.proofs.CompactBegins.{did_choose_none}
 use Rattle.store_core.proofs.CompactMakes.{did_refused, did_not_make, did_made, did_made_fail, joins_made, blocks_made, blocks_still, of_some, whole_made}
 use Rattle.store_core.proofs.store.Core.begin_compact.Goals as goal

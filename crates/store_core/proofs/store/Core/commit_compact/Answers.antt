@@ -5,7 +5,7 @@ use Rattle.block_list.specs.Commit.{slot_of}
 use Rattle.block_list.proofs.ReadyLemmas.{can_lay}
 use Rattle.store_state.specs.Given.{info_files}
 use Rattle.store_model.specs.State.{without_pin}
-use Rattle.store_core.specs.Pins.{is_taken, files_at}
+use Rattle.store_files.specs.Pins.{is_taken, files_at}
 use Rattle.store_core.specs.declared.state.CoreState.{CoreState}
 use Rattle.store_core.proofs.CommitAnswers.{did_stopped}
 use Rattle.store_core.proofs.CommitRuns.{ran_by, synced_by}

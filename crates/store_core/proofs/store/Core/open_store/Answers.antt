@@ -8,21 +8,21 @@ use Rattle.store_core.specs.Opening.StoreBreaks.{slot, listed}
 use Rattle.store_core.proofs.OpeningSteps.{block_low, list_breaks_same, segment_low, store_unbroken, sound_unbroken, refused_slot, refused_fault}
 use Rattle.store_core.specs.Opening.{LeavesAlone, opened_list, refusal_of}
 use Rattle.block_list.proofs.SlotLemmas.{same_some}
-use Rattle.store_core.specs.Loose.{AreFreed}
-use Rattle.store_core.proofs.LeftFiles.{freed_same, next_low}
+use Rattle.store_files.specs.Loose.{AreFreed}
+use Rattle.store_files.proofs.LeftFiles.{freed_same, next_low}
 use Rattle.store_images.proofs.Keeping.{one_list}
 use Rattle.store_core.proofs.LeftAlone.{left_untouched, left_loaded, left_then}
 use Rattle.store_images.specs.Stored.{first_number}
 use Rattle.store_images.proofs.Logs.{log_same}
-use Rattle.store_core.specs.Cores.{tail_of}
-use Rattle.store_core.proofs.LogSteps.{read_whole}
-use Rattle.store_core.proofs.ReadBlocks.{read_blocks_whole, whole_same}
+use Rattle.store_files.specs.LogReading.{tail_of}
+use Rattle.store_files.proofs.LogSteps.{read_whole}
+use Rattle.store_files.proofs.ReadBlocks.{read_blocks_whole, whole_same}
 use Rattle.store_core.proofs.OpeningEnds.{opened_existing, opened_new, kept_loaded, kept_then, kept_new, if_ok_both, if_ok_more, if_err_more}
 use Rattle.disk_model.proofs.Runs.{untouched_same}
 use Rattle.disk_model.proofs.CallRuns.{counts_as, counts_then}
-use Rattle.store_core.specs.declared.error.OpenError.TheVariants.{Fault}
+use Rattle.store_files.specs.declared.error.OpenError.TheVariants.{Fault}
 use Rattle.block_list.specs.declared.error.ListError.TheVariants as list_errors
-use Rattle.store_core.proofs.Counted.{fine_answer, refused_answer}
+use Rattle.store_files.proofs.Answered.{fine_answer, refused_answer}
 use Rattle.store_core.proofs.store.Core.open_store.Goals as goal
 
 -- ---- no frames were made

@@ -4,7 +4,7 @@ use Rattle.block_info.specs.InfoParts.{InfoParts}
 use Rattle.disk_model.specs.Images.{bytes_of}
 use Rattle.store_state.specs.Given.{info_files}
 use Rattle.store_state.specs.Written.{AreBlocksOf}
-use Rattle.store_core.specs.Pins.{files_at}
+use Rattle.store_files.specs.Pins.{files_at}
 use Rattle.store_core.proofs.ListedBlocks.{whole_same}
 use Rattle.store_core.proofs.Showing.{look_shows}
 use Rattle.store_core.proofs.LookEvents.{did_looked, did_look_lacking}

@@ -1,6 +1,0 @@
-use Rattle.std.proofs.Common.{◌≡◌, ◌<◌, ℕ, true}
-use Rattle.store_core.specs.Pins.{is_taken}
-use Rattle.store_core.proofs.pins.first_free.Given as goal
-
-abbrev pub invariant-loop-at : goal.invariant-loop-at
-invariant-loop-at l = (other : ℕ) → other < l.at → is_taken other l.pins ≡ true
