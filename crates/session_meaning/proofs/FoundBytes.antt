@@ -1,6 +1,6 @@
 -- What a crash might have left before a line it might still have left after the last one, whatever the bytes are. So each opening that is
--- refused for its bytes is refused for some that it might have left; and as long as the store stays closed for them, the disk's bytes break
--- first at that place, so that no opening goes well.
+-- refused for its bytes is refused for some that it might have left, and each that goes well is told how many entries some of these have; and
+-- as long as the store stays closed for them, the disk's bytes break first at that place, so that no opening goes well.
 use Rattle.std.specs.Prelude.{⊤, IfSome}
 use Rattle.std.proofs.Common.{◌≡◌, ℕ, ◌≤◌, List, [], ◌∷◌, Option, None, Some, Result, Ok, Err, IsTrue, refl, sym, subst}
 use Rattle.block_list.specs.Loading.{KeepsList}
@@ -56,7 +56,7 @@ module _ {D : Type 0} (g : Ghosts D) where
 
   opening_fits : (left : Image → Type 0) (moment : ℕ) (disk : D) (store : Store D) (result : Result ℕ OpenError) → IsTrue (g.tells disk) → left (g.held disk)
       → Reopens g disk moment store result → FitsBytes left (Reopen moment) (reopened_reply result)
-  opening_fits left moment disk store (Ok entries) tells here again = (g.held disk, here, again.unbroken tells)
+  opening_fits left moment disk store (Ok entries) tells here again = (g.held disk, here, again.unbroken tells, again.entries tells)
   opening_fits left moment disk store (Err Fault) tells here again = tt
   opening_fits left moment disk store (Err (NotStore file at)) tells here again = (g.held disk, here, again.breaks tells file at refl)
   opening_fits left moment disk store (Err Memory) tells here again = tt

@@ -14,7 +14,7 @@ use Rattle.store_model.specs.History.{count_of}
 use Rattle.store_model.specs.RowSets.{Within}
 use Rattle.store_model.specs.State.{State, live_rows, state_rows}
 use Rattle.store_images.specs.Stored.{ImageStandsFor, IsTidy, KeepsStored, MayStandFor}
-use Rattle.store_core.specs.Opening.{BeginsAs, LeavesAlone, StoreBreaks, opened_state}
+use Rattle.store_core.specs.Opening.{BeginsAs, HasEntries, LeavesAlone, StoreBreaks, opened_state}
 use Rattle.store_core.specs.Waiting.{rows_outside}
 use Rattle.store_reopen.specs.Through.{StoodAmid}
 use Rattle.session_meaning.specs.declared.ending.Ending.TheVariants.{NotOpened}
@@ -83,12 +83,12 @@ pub record BeginsListed (image : Image) (u : State) (moment : ℕ) (first : Stat
 abbrev pub IsUnbroken : Image → Type 0
 IsUnbroken image = (file at : ℕ) → StoreBreaks image file at → ⊥
 
--- A store that is opened again is refused for its bytes only where one of these images breaks, first at that place of that file; and if it
--- is opened, one of them breaks nowhere: those with which the run opened it do, so this alone rules out no reply. Nothing that is asked is
--- told of a block that it is none: an opening checks each block, and what is listed since was written as one.
+-- A store that is opened again is refused for its bytes only where one of these images breaks, first at that place of that file; and it
+-- is opened with so many entries only where one of them breaks nowhere and has so many. Nothing that is asked is told of a block that it is
+-- none: an opening checks each block, and what is listed since was written as one.
 abbrev pub FitsBytes : (Image → Type 0) → Act → Reply → Type 0
 FitsBytes left (Reopen moment) (Refused (NotStore file at)) = (image : Image) × left image × StoreBreaks image file at
-FitsBytes left (Reopen moment) (Reopened entries) = (image : Image) × left image × IsUnbroken image
+FitsBytes left (Reopen moment) (Reopened entries) = (image : Image) × left image × IsUnbroken image × HasEntries image entries
 FitsBytes left (Ask (Ok request)) reply = BlamesNoBlock reply
 FitsBytes left act reply = ⊤
 
@@ -124,8 +124,9 @@ HoldsBroken held place = StoreBreaks held place.0 place.1
 
 -- Over a disk that shows its bytes, whatever they are: each opening again that is refused for its bytes is refused for a place where some
 -- break first that a crash may have left since the run began. From there on none goes well, and none is refused for another place, until one
--- fails in a call of the disk; and if none does, the bytes of the disk that is handed back break first at that place. Of one that goes well
--- otherwise nothing more is said. No query and no compaction is told of a block that it is none. An input may end after any line.
+-- fails in a call of the disk; and if none does, the bytes of the disk that is handed back break first at that place. One that goes well is
+-- told how many entries some have that a crash may have left and that break nowhere; which ones of these isn't said. No query and no
+-- compaction is told of a block that it is none. An input may end after any line.
 pub record FindsBytes {D : Type 0} (g : Ghosts D) (disk later : D) (o : Outcome) : Type 0 where
   pub fit : IsTrue (g.tells disk) → FitBytes (g.left_since later (g.moment disk)) None o.acts o.replies
   pub closed : IsTrue (g.tells disk) → IfSome (broken_after None o.acts o.replies) (HoldsBroken (g.held later))

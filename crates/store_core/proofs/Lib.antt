@@ -61,3 +61,4 @@ mod OpenedStates
 mod OpeningSteps
 mod OpeningEnds
 mod LeftAlone
+mod EntryCounts

@@ -1,5 +1,5 @@
 -- What opening a store makes of its disk, what the core then stands for, and where bytes aren't a store's.
-use Rattle.std.specs.Prelude.{◌≡◌, ℕ, ◌+◌, ◌-◌, ◌≤◌, List, [], ◌∷◌, ◌++◌, map, drop, nat_le, if◌then◌else◌, Option, Some, None, Ok, Err, IsTrue}
+use Rattle.std.specs.Prelude.{◌≡◌, ℕ, ◌+◌, ◌-◌, ◌≤◌, List, [], ◌∷◌, ◌++◌, length, map, drop, nat_le, if◌then◌else◌, Option, Some, None, Ok, Err, IsTrue}
 use Rattle.span_types.specs.declared.spans.Span.{Span}
 use Rattle.span_types.specs.declared.spans.Row.{Row}
 use Rattle.span_types.specs.First.{IsFirstOf}
@@ -138,3 +138,11 @@ pub data ListBreaks (image : Image) (list : ListBody) (file at : ℕ) : Type 0 w
 pub data StoreBreaks (image : Image) (file at : ℕ) : Type 0 where
   slot : slots_at (bytes_of image 0) (bytes_of image 1) ≡ Err (file, at) → StoreBreaks image file at
   listed : (list : ListBody) → slots_at (bytes_of image 0) (bytes_of image 1) ≡ Ok (Some list) → ListBreaks image list file at → StoreBreaks image file at
+
+-- ---- how many entries any image has
+
+-- An image, be it a store's or not, has so many entries: none if it has no list, else as many as come before its log and the batches of that.
+pub data HasEntries (image : Image) (n : ℕ) : Type 0 where
+  vacant : ImageHoldsList image None → n ≡ 0 → HasEntries image n
+  filled : (list : ListBody) (batches : List (List Span)) → ImageHoldsList image (Some list)
+      → LogHolds image list.segments (first_number list) batches → n ≡ first_number list + length batches → HasEntries image n

@@ -1,14 +1,17 @@
-//! A theorem about cores: what a crash left at any moment since the opening.
+//! Theorems: what a crash left at any moment since a core's opening, and how many entries an image has.
 //!
-//! The function has an empty body, and nothing calls it: its contract is the statement, and its proof stands in `proofs/laws/`.
+//! Each function has an empty body, and nothing calls it: its contract is the statement, and its proof stands in `proofs/laws/`.
 
-ghost use Rattle.store_model.specs.History.{count_of};
+ghost use Rattle.disk_model.specs.Images.{Image};
+ghost use Rattle.store_model.specs.History.{History, count_of};
 ghost use Rattle.store_model.specs.Event.{Event, Reply};
 ghost use Rattle.store_model.specs.Step.{Machine};
 ghost use Rattle.store_core.specs.Cores.{CoreStandsFor};
 ghost use Rattle.store_core.specs.Events.{Did};
+ghost use Rattle.store_core.specs.Opening.{HasEntries};
 ghost use Rattle.store_core.specs.Past.{StandsSince};
-ghost use Rattle.std.specs.Prelude.{ℕ};
+ghost use Rattle.store_images.specs.Stored.{ImageStandsFor};
+ghost use Rattle.std.specs.Prelude.{◌≡◌, ℕ};
 
 use crate::store::Core;
 use disk_model::Device;
@@ -24,4 +27,12 @@ pub fn images_since_opening<D: Device>(old: &Core<D>, new: &Core<D>)
         → (did : Did D.Device.own old.now e r new.now)
         → (since : StandsSince D.Device.own start least old.now m)
         → StandsSince D.Device.own start least new.now (did.stepped m since.stands).machine }
+{}
+
+/// An image has one number of entries at most, and if it stands for a history it has that one's.
+pub fn entries_of_an_image()
+    ensures one { (image : Image) (n other : ℕ) → HasEntries image n → HasEntries image other
+        → n ≡ other }
+    ensures sound { (image : Image) (h : History) → ImageStandsFor image h
+        → HasEntries image (count_of h) }
 {}

@@ -7,7 +7,7 @@
 //! - Events, from memory to disk: `events` (pushes and looks; `admit` refuses), `cutting`, `flushing` and `committing`, `compacting`,
 //!   `reclaiming`; `next_list` makes the lists of commits.
 //! - Pages of blocks, from disk to a caller: `pages`.
-//! - `port` is a core as a port, and `laws` has a theorem.
+//! - `port` is a core as a port, and `laws` has theorems.
 //!
 //! `specs/Cores.antt` says what a core stands for, `specs/Events.antt` what one event makes of it.
 #![tactic(auto)]
@@ -33,7 +33,7 @@ mod state;
 mod store;
 
 pub use jobs::{Jobs, OpenCompaction, OpenFlush};
-pub use laws::images_since_opening;
+pub use laws::{entries_of_an_image, images_since_opening};
 pub use new_store::{make_store, open_new};
 pub use port::{a_core_keeps_its_blocks, a_shown_core_is_a_port, an_event_is_a_call};
 pub use room::CommitRoom;

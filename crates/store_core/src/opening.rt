@@ -20,7 +20,7 @@ ghost use Rattle.store_images.specs.Settled.{IsSettled};
 ghost use Rattle.store_files.specs.LogReading.{tail_of, LogBreaks, LogRead};
 ghost use Rattle.store_files.specs.BlockReading.{BlocksRead};
 ghost use Rattle.store_files.specs.Loose.{AreFreed, KeepsDisk};
-ghost use Rattle.store_core.specs.Opening.{LeavesAlone, opened_list, Opened, IsOpenedState, ListBreaks, StoreBreaks, refusal_of};
+ghost use Rattle.store_core.specs.Opening.{HasEntries, LeavesAlone, opened_list, Opened, IsOpenedState, ListBreaks, StoreBreaks, refusal_of};
 ghost use Rattle.store_files.specs.declared.error.OpenError.TheVariants.{Fault, NotStore};
 
 use crate::jobs::Jobs;
@@ -75,6 +75,9 @@ impl<D: Device> Core<D> {
             → StoreBreaks (D.held disk) file at → ⊥) }
         ensures sound { IfErr result (λ e. IsTrue (D.tells disk) → IsSoundImage (D.held disk)
             → (file at : ℕ) → e.0 ≢ NotStore file at) }
+        // It counts the entries that the bytes had, be they a store's or not.
+        ensures entries { IfOk result (λ core. IsTrue (D.tells disk)
+            → HasEntries (D.held disk) (core.state.segment.first + core.state.segment.count)) }
         // All frames are empty. They are made first.
         ensures frames { IfOk result (λ core. core.cache ≡ replicate 256 None) }
         // A fault is answered just where a call of the disk failed, and then it was the last one.

@@ -1,4 +1,5 @@
-use Rattle.std.proofs.Common.{refl}
+use Rattle.std.proofs.Common.{refl, sym, subst}
+use Rattle.store_core.specs.Opening.{HasEntries}
 use Rattle.store_reopen.proofs.store.open_again.Goals as goal
 
 pub returns-in-Ok : goal.returns-in-Ok
@@ -9,6 +10,7 @@ returns-in-Ok g c = record {
   left = tt;
   breaks = tt;
   unbroken = c.in-Ok.ensures.unbroken;
+  entries = λ told. subst (HasEntries (g.D.Device.held c.args.disk)) (sym c.entries_of-entries.ensures) (c.in-Ok.ensures.entries told);
   sound = tt;
   counts = record {
     time = c.in-Ok.ensures.calls.time;

@@ -5,6 +5,7 @@ use Rattle.block_list.specs.Loading.{IsReady}
 use Rattle.block_list.specs.declared.body.ListBody.{ListBody}
 use Rattle.disk_model.specs.Images.{bytes_of}
 use Rattle.store_core.specs.Opening.StoreBreaks.{slot, listed}
+use Rattle.store_core.specs.Opening.HasEntries.{vacant, filled}
 use Rattle.store_core.proofs.OpeningSteps.{block_low, list_breaks_same, segment_low, store_unbroken, sound_unbroken, refused_slot, refused_fault}
 use Rattle.store_core.specs.Opening.{LeavesAlone, opened_list, refusal_of}
 use Rattle.block_list.proofs.SlotLemmas.{same_some}
@@ -15,7 +16,8 @@ use Rattle.store_core.proofs.LeftAlone.{left_untouched, left_loaded, left_then}
 use Rattle.store_images.specs.Stored.{first_number}
 use Rattle.store_images.proofs.Logs.{log_same}
 use Rattle.store_files.specs.LogReading.{tail_of}
-use Rattle.store_files.proofs.LogSteps.{read_whole}
+use Rattle.store_files.proofs.LogSteps.{read_whole, read_size}
+use Rattle.store_core.proofs.NewCores.{no_history, no_history_is_empty}
 use Rattle.store_files.proofs.ReadBlocks.{read_blocks_whole, whole_same}
 use Rattle.store_core.proofs.OpeningEnds.{opened_existing, opened_new, kept_loaded, kept_then, kept_new, if_ok_both, if_ok_more, if_err_more}
 use Rattle.disk_model.proofs.Runs.{untouched_same}
@@ -109,6 +111,14 @@ returns-in-None-clause-not_store g c = if_err_more c.open_new.result _ _ (λ e n
 pub returns-in-None-clause-sound : goal.returns-in-None-clause-sound
 returns-in-None-clause-sound g c = if_err_more c.open_new.result _ _ (λ e never told sound file at is. never file at is) c.open_new.ensures.a_store
 
+pub returns-in-None-clause-entries : goal.returns-in-None-clause-entries
+returns-in-None-clause-entries g c =
+    let d = g.D.Device in
+    if_ok_more c.open_new.result _ _
+    (λ core stands told. vacant (subst (λ (l : Option ListBody). ImageHoldsList (d.held c.args.disk) l) c.in-None.is (c.in-Ok-load.ensures.list told))
+    (sym (stands no_history no_history_is_empty).stands.has.count ∙ no_history_is_empty.no_entries))
+    c.open_new.ensures.stands
+
 -- ---- a store was read
 
 pub returns-in-Ok-read_store-clause-list : goal.returns-in-Ok-read_store-clause-list
@@ -170,6 +180,22 @@ returns-in-Ok-read_store-clause-unbroken g c = λ told file at broken.
     (read_blocks_whole (IsTrue (d.tells mid)) (d.held mid) list.blocks c.in-Ok-read_store.state.infos.items c.in-Ok-read_store.ensures.blocks told_mid))
     (log_same (d.held mid) (d.held disk) list.segments (first_number list) state.0 (λ x inside. sym (c.load.ensures.others told x.file (segment_low list rules x inside)))
     (read_whole (IsTrue (d.tells mid)) (d.held mid) list.segments (first_number list) state.0 (tail_of c.in-Ok-read_store.state.segment) state.2 told_mid)) broken
+
+pub returns-in-Ok-read_store-clause-entries : goal.returns-in-Ok-read_store-clause-entries
+returns-in-Ok-read_store-clause-entries g c = λ told.
+    let d = g.D.Device in
+    let disk = c.args.disk in
+    let mid = c.load.new.disk in
+    let list = c.in-Some.list in
+    let rules = c.in-Ok-load.ensures.rules list (ap Ok c.in-Some.is) in
+    let state = c.in-Ok-read_store.ensures.state in
+    let tail = tail_of c.in-Ok-read_store.state.segment in
+    let told_mid : IsTrue (d.tells mid) = subst IsTrue (sym c.load.ensures.counted.telling) told in
+    filled list state.0
+    (subst (λ (l : Option ListBody). ImageHoldsList (d.held disk) l) c.in-Some.is (c.in-Ok-load.ensures.list told))
+    (log_same (d.held mid) (d.held disk) list.segments (first_number list) state.0 (λ x inside. sym (c.load.ensures.others told x.file (segment_low list rules x inside)))
+    (read_whole (IsTrue (d.tells mid)) (d.held mid) list.segments (first_number list) state.0 tail state.2 told_mid))
+    (read_size (IsTrue (d.tells mid)) (d.held mid) list.segments (first_number list) state.0 tail state.2)
 
 pub returns-in-Err-read_store-clause-kept_refused : goal.returns-in-Err-read_store-clause-kept_refused
 returns-in-Err-read_store-clause-kept_refused g c =
