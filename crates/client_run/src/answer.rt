@@ -25,7 +25,8 @@ use traceql_metrics::series;
 /// A push, a cut and the emptying of loose files are one call each, and a flush and a compaction are one round each. A
 /// look-up, a search or a metrics query takes one look, reads the blocks that it pins and gives it back. Out of memory
 /// a request is refused for that; whether a push was refused the port says. The gate is passed at twice the client's
-/// number before a search or a metrics query is evaluated, and at one more after each push that was accepted.
+/// number between the look of a search or a metrics query and its evaluation, and at one more after each push that was
+/// accepted.
 pub fn answer_request<P: Port, G: Gate>(
     alloc: Global,
     port: &mut P,
@@ -40,14 +41,8 @@ pub fn answer_request<P: Port, G: Gate>(
     match request {
         Request::Push { reading, moment } => push(port, reading, moment, client, gate),
         Request::Trace(id) => trace(alloc, port, id),
-        Request::Search(asks) => {
-            gate.pass(2 * client);
-            search(alloc, port, asks)
-        }
-        Request::Metrics(asks) => {
-            gate.pass(2 * client);
-            metrics(alloc, port, asks)
-        }
+        Request::Search(asks) => search(alloc, port, asks, client, gate),
+        Request::Metrics(asks) => metrics(alloc, port, asks, client, gate),
         Request::Cut { moment } => cut(port, moment),
         Request::CutAll => cut_all(port),
         Request::Flush => flush(alloc, port),
@@ -213,12 +208,18 @@ fn trace_reply(answer: Result<TraceAnswer, QueryError>) -> Reply
 }
 
 // Tells what a search finds.
-fn search<P: FlushPort>(alloc: Global, port: &mut P, asks: Search) -> Reply
+fn search<P: FlushPort, G: Gate>(
+    alloc: Global,
+    port: &mut P,
+    asks: Search,
+    client: u32,
+    gate: &G,
+) -> Reply
     requires { (held : List Hold) × P.meaning.holds port.old held }
     ensures { HasReplied P.meaning port.old (AsksSearch asks) result port.new }
 {
     let asked = asked_of(asks);
-    let answer = query_fanout::search(alloc, port, &asked);
+    let answer = query_fanout::search(alloc, port, &asked, client, gate);
     search_reply(alloc, &asked, answer)
 }
 
@@ -258,13 +259,19 @@ fn search_reply(alloc: Global, asked: &Asked, answer: Result<SearchAnswer, Query
 }
 
 // Tells how many of the spans that a query finds begin in each bucket.
-fn metrics<P: FlushPort>(alloc: Global, port: &mut P, asks: Metrics) -> Reply
+fn metrics<P: FlushPort, G: Gate>(
+    alloc: Global,
+    port: &mut P,
+    asks: Metrics,
+    client: u32,
+    gate: &G,
+) -> Reply
     requires { (held : List Hold) × P.meaning.holds port.old held }
     ensures { HasReplied P.meaning port.old (AsksMetrics asks) result port.new }
 {
     let (start, end, step, rate) = (asks.start, asks.end, asks.step, asks.rate);
     let asked = counted_of(asks);
-    let answer = query_fanout::search(alloc, port, &asked);
+    let answer = query_fanout::search(alloc, port, &asked, client, gate);
     series_reply(alloc, start, end, step, rate, answer)
 }
 

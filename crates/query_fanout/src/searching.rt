@@ -16,6 +16,7 @@ use crate::own::Own;
 use crate::picks::picks_of_rows;
 use crate::rounds::take_rounds;
 use column_scan::{Sifter, sieve};
+use io_edges::Gate;
 use moment_range::Range;
 use span_types::Memory;
 use spanset_eval::Results;
@@ -54,11 +55,14 @@ pub struct SearchAnswer {
 /// picked in a round are looked up and answered a few at a time, those of late moments first, but for those of which
 /// no result can come among the best so far; `bounded` says how many pages that is at most. No rows are kept but those
 /// of a few traces, beside a list of the look's rows by trace, which shares them and copies none, and no picks but
-/// those of a round and those that wait for one. The look is given back in every case.
-pub fn search<P: FlushPort>(
+/// those of a round and those that wait for one. The look is given back in every case. For a test, the gate is passed
+/// at twice the client's number, modulo 2^32, between the look and all else.
+pub fn search<P: FlushPort, G: Gate>(
     alloc: Global,
     port: &mut P,
     asked: &Asked,
+    client: u32,
+    gate: &G,
 ) -> Result<SearchAnswer, QueryError>
     requires { (held : List Hold) × P.meaning.holds port.old held }
     ensures asked { HasAsked P.meaning port.old (IsSearchAnswer asked.now) result port.new }
@@ -70,6 +74,7 @@ pub fn search<P: FlushPort>(
         Ok(look) => look,
         Err(_) => return Err(QueryError::Memory),
     };
+    gate.pass(client.wrapping_mul(2));
     let found = search_of_look(alloc, port, &look, asked);
     port.done(look);
     found
