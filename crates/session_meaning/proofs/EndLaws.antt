@@ -136,7 +136,7 @@ module _ (sure : Bool) (words : List (List ℕ)) (o : Outcome) (old new : Edges)
       ap end_of did.replies_are ∙ (subst (λ (k : Ending). EndsAlone k before did.reply new.taken) e did.ends).1
 
   -- a refusal is among the replies
-  refused_in : (c : Command) → GoesWell c old new → (before : List ℕ) → old.taken ≡ Some before → DoesInStore sure c o old new → o.ending ≡ Refused → end_of o.replies ≡ Refused
+  pub refused_in : (c : Command) → GoesWell c old new → (before : List ℕ) → old.taken ≡ Some before → DoesInStore sure c o old new → o.ending ≡ Refused → end_of o.replies ≡ Refused
   refused_in session well before told does e =
       let at_text : IfSome (Some well.3) (λ text. IfSome old.taken (λ b. HasRun text b o old new)) =
       subst (λ (l : Option (List ℕ)). IfSome l (λ text. IfSome old.taken (λ b. HasRun text b o old new))) well.4 does in

@@ -65,12 +65,12 @@ before_still n a b c same rose = subst (λ (x : ℕ). RoseBy n a x) (sym same) r
 
 -- ---- a round
 
-abbrev round_faults : Round → ℕ
+abbrev pub round_faults : Round → ℕ
 round_faults (round_is.Did blocks rows) = 0
 round_faults round_is.Nothing = 0
 round_faults (round_is.Refused w) = number (is_disk_fault (told.Round w))
 
-begin_fault : (w : BeginError) → round_faults (round_is.Refused (begin_cause w)) ≡ number (is_fault (reply.Refused (begin_refusal w)))
+pub begin_fault : (w : BeginError) → round_faults (round_is.Refused (begin_cause w)) ≡ number (is_fault (reply.Refused (begin_refusal w)))
 begin_fault (begin.ReadOnly faults) = refl
 begin_fault (begin.Busy job) = refl
 begin_fault (begin.FilesSpent next) = refl
@@ -121,19 +121,19 @@ module _ (round : Round) where
       let same : at.faults ≡ before.faults = subst (λ (failed : Bool). IsCounted failed before.faults at.faults) (given_fault job) step.2 in
       after_still (round_faults round) before.faults at.faults after.faults same (of_ended job at after ends)
 
-flush_fault : (round : Round) → faults_in (flush_reply round) ≡ round_faults round
+pub flush_fault : (round : Round) → faults_in (flush_reply round) ≡ round_faults round
 flush_fault (round_is.Did blocks rows) = refl
 flush_fault round_is.Nothing = refl
 flush_fault (round_is.Refused w) = refl
 
-compact_fault : (round : Round) → faults_in (compact_reply round) ≡ round_faults round
+pub compact_fault : (round : Round) → faults_in (compact_reply round) ≡ round_faults round
 compact_fault (round_is.Did blocks rows) = refl
 compact_fault round_is.Nothing = refl
 compact_fault (round_is.Refused w) = refl
 
 -- ---- other lines
 
-push_fault : (reading : Reading) (answer : Result ℕ PushError) → faults_in (pushed_reply reading answer) ≡ number (is_fault (push_reply answer))
+pub push_fault : (reading : Reading) (answer : Result ℕ PushError) → faults_in (pushed_reply reading answer) ≡ number (is_fault (push_reply answer))
 push_fault reading (Ok n) = refl
 push_fault reading (Err (push.LiveFull held)) = refl
 push_fault reading (Err (push.StoreFull pushes)) = refl
@@ -141,17 +141,17 @@ push_fault reading (Err (push.ReadOnly faults)) = refl
 push_fault reading (Err push.Fault) = refl
 push_fault reading (Err push.Memory) = refl
 
-reclaim_fault : (answer : Result ℕ ReclaimError) → faults_in (reclaimed_reply answer) ≡ number (is_fault (reclaim_reply answer))
+pub reclaim_fault : (answer : Result ℕ ReclaimError) → faults_in (reclaimed_reply answer) ≡ number (is_fault (reclaim_reply answer))
 reclaim_fault (Ok n) = refl
 reclaim_fault (Err (reclaim.ReadOnly faults)) = refl
 reclaim_fault (Err reclaim.Fault) = refl
 reclaim_fault (Err reclaim.Memory) = refl
 
-cut_fault : (answer : Result ℕ Memory) → faults_in (cut_reply Cut answer) ≡ number (is_fault (count_reply answer))
+pub cut_fault : (answer : Result ℕ Memory) → faults_in (cut_reply Cut answer) ≡ number (is_fault (count_reply answer))
 cut_fault (Ok n) = refl
 cut_fault (Err e) = refl
 
-cut_all_fault : (answer : Result ℕ Memory) → faults_in (cut_reply CutAll answer) ≡ number (is_fault (count_reply answer))
+pub cut_all_fault : (answer : Result ℕ Memory) → faults_in (cut_reply CutAll answer) ≡ number (is_fault (count_reply answer))
 cut_all_fault (Ok n) = refl
 cut_all_fault (Err e) = refl
 

@@ -31,6 +31,8 @@ mod LowFiles
 mod BrokenPlaces
 pub mod FoundBytes
 pub mod EndLaws
+mod LinePlaces
+mod FaultPlaces
 pub mod Unsure
 pub mod IngestLaws
 mod FewerBlocks
@@ -44,3 +46,10 @@ mod ServedPushes
 mod ServedCounts
 mod ServedCauses
 mod ServedRoom
+mod RoundCalls
+mod ServedRounds
+mod ServedQueries
+mod ServedWhole
+mod ServedFaults
+mod ServedReadOnly
+mod ServedDone

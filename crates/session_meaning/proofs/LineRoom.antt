@@ -36,9 +36,9 @@ use Rattle.session_meaning.proofs.Steps.{rose_from, rose_to}
 -- ---- one line
 
 -- It writes, and no job is open.
-record IsIdle (m : Machine) : Type 0 where
-  writes : m.read_only ≡ None
-  closed : HasNoJob m
+pub record IsIdle (m : Machine) : Type 0 where
+  pub writes : m.read_only ≡ None
+  pub closed : HasNoJob m
 
 pub push_plain : (reading : Reading) (moment : ℕ) (answer : Result ℕ PushError) (m m' : Machine) → Taken reading.batch.spans moment m (push_reply answer) m' → IsPlain (pushed_reply reading answer)
 push_plain reading moment answer m m' (kept told history writes rows files closed) = count_plain reading answer (count_of m.history) told
@@ -96,14 +96,14 @@ line_with_room (Err why) before after r is well writes closed room = line_withou
 one_session : (item : Item) (before after : Place) (r : Reply) → IsDone true (Ask item) before r after → Session true before.store (item ∷ []) (r ∷ []) after.store
 one_session item before after r h = (after.store, h.1, (refl, refl))
 
-one_later : (act : Act) (before after : Place) (r : Reply) → IsDone true act before r after → before.store.faults ≤ after.store.faults
+pub one_later : (act : Act) (before after : Place) (r : Reply) → IsDone true act before r after → before.store.faults ≤ after.store.faults
 one_later (Ask item) before after r h = session_later true (item ∷ []) (r ∷ []) before.store after.store (one_session item before after r h)
 one_later (Reopen moment) before after (Reopened entries) h = let same = h.0.faults in omega (arith, same)
 one_later (Reopen moment) before after (Refused why) h = h.1.1
 one_later (Reopen moment) before after _ h = absurd h
 one_later Unread before after r h = let same = ap (λ (p : Place). p.store.faults) h.2 in omega (arith, same)
 
-acts_later : (acts : List Act) (replies : List Reply) (first last : Place) → AreDone true first acts replies last → first.store.faults ≤ last.store.faults
+pub acts_later : (acts : List Act) (replies : List Reply) (first last : Place) → AreDone true first acts replies last → first.store.faults ≤ last.store.faults
 acts_later [] replies first last h = let same = ap (λ (p : Place). p.store.faults) h.1 in omega (arith, same)
 acts_later (a ∷ more) [] first last h = absurd h
 acts_later (a ∷ more) (r ∷ rs) first last h =
@@ -111,7 +111,7 @@ acts_later (a ∷ more) (r ∷ rs) first last h =
     let rest = acts_later more rs h.0 last h.2 in omega (arith, here, rest)
 
 -- It goes on to write, with no job open, where no call fails.
-one_idle : (act : Act) (before after : Place) (r : Reply) → IsDone true act before r after → (Rose before.store.faults after.store.faults → ⊥) → IsIdle before.store.machine
+pub one_idle : (act : Act) (before after : Place) (r : Reply) → IsDone true act before r after → (Rose before.store.faults after.store.faults → ⊥) → IsIdle before.store.machine
     → IsIdle after.store.machine
 one_idle (Ask item) before after r h well idle = of_writing (by_since (session_fails true (item ∷ []) (r ∷ []) before.store after.store (one_session item before after r h) idle.writes))
   where
@@ -172,14 +172,14 @@ reopening_without_faults moment before after _ h quiet = absurd h.0
 
 -- ---- a run
 
-its_store : (c : Command) (old new : Edges) → GoesWell c old new → HasItsStore old new
+pub its_store : (c : Command) (old new : Edges) → GoesWell c old new → HasItsStore old new
 its_store session old new well = well.0
 its_store ingest old new well = well.0
 its_store (serve clients rounds) old new well = well.0
 its_store (drill seed traces) old new well = well.0
 its_store (Alone line) old new well = well.0
 
-some_act : (front back : List Act) (act : Act) → front ++ act ∷ back ≡ [] → ⊥
+pub some_act : (front back : List Act) (act : Act) → front ++ act ∷ back ≡ [] → ⊥
 some_act [] back act e = let bad : ⊥ = cc in absurd bad
 some_act (a ∷ front) back act e = let bad : ⊥ = cc in absurd bad
 

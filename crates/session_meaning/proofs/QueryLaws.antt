@@ -65,7 +65,7 @@ Says tells (Err error.Fault) before after = Rose before.faults after.faults
 Says tells (Err (error.NotBlock file at)) before after = is_among file (block_files before.machine.state.blocks) ≡ true
 Says tells (Err error.Memory) before after = ⊤
 
-looked_same : (look other : LookParts) → reply.Looked look ≡ reply.Looked other
+pub looked_same : (look other : LookParts) → reply.Looked look ≡ reply.Looked other
     → (look.pin ≡ other.pin) × (look.files ≡ other.files) × (look.as_of ≡ other.as_of) × (look.rows ≡ other.rows)
 looked_same look other e =
     let same : look ≡ other = cc in

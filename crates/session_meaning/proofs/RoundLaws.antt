@@ -299,7 +299,7 @@ same_files one other is =
     let same : one ≡ other = cc in (ap (λ (job : CompactParts). job.pin) same, ap (λ (job : CompactParts). job.files) same)
 
 -- the files of a compaction's job are those of listed blocks
-chosen_listed : (m m' : Machine) (job : CompactParts) → Happens m BeginCompact (given (OfBlocks job)) m' → (block : ℕ) → is_among block job.files ≡ true
+pub chosen_listed : (m m' : Machine) (job : CompactParts) → Happens m BeginCompact (given (OfBlocks job)) m' → (block : ℕ) → is_among block job.files ≡ true
     → is_among block (block_files m.state.blocks) ≡ true
 chosen_listed m m' job done block inside =
     let theirs : job.files ≡ block_files (choice m.state.blocks) = (same_files job _ done.2).1 in

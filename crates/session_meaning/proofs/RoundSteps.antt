@@ -203,6 +203,55 @@ module _ (begin : event) (is : IsBegin begin) (f g : ℕ) (m m' : Machine) where
   not_begun why (Breaks none does told rose same) = subst ReplyCause (sym told) ((is_free begin is m none).some, rose, same)
   not_begun why (Halts none reclaims does told rose emptied fewer same) = absurd (no_reclaim begin is reclaims)
 
+-- ---- what decides a begin's reply
+
+no_less : (a b : ℕ) → a ≤ b → nat_le a b ≡ true
+no_less a b h = search rules
+
+not_none : (work : ℕ) → 1 ≤ work → (work == 0) ≡ false
+not_none work h = search rules
+
+-- A reply that is sure is the reply, and nothing changes.
+only_sure : (begin : event) → IsBegin begin → (f g : ℕ) (m m' : Machine) (r sure : reply) → early m begin ≡ Some sure → Step f g m begin r m' → r ≡ sure
+only_sure begin is f g m m' r sure says (Sure told same) = some_same r sure (sym told ∙ says)
+only_sure begin is f g m m' r sure says (Succeeds none done) = absurd (none_some sure (sym none ∙ says))
+only_sure begin is f g m m' r sure says (Lacks none takes told same) = absurd (none_some sure (sym none ∙ says))
+only_sure begin is f g m m' r sure says (Unread reading told rose same) = let bad : ⊥ = (let no = reads_not begin is in cc) in absurd bad
+only_sure begin is f g m m' r sure says (Breaks none does told rose same) = absurd (none_some sure (sym none ∙ says))
+only_sure begin is f g m m' r sure says (Halts none reclaims does told rose emptied fewer same) = absurd (none_some sure (sym none ∙ says))
+
+decided : (begin : event) → IsBegin begin → (f g : ℕ) (m m' : Machine) (r sure : reply) → (o b : Option ℕ) (more : ℕ) → m.read_only ≡ o → open_job begin m.state ≡ b
+    → work begin m.state ≡ more → if_read_only o (if_busy b (if_idle more m.state.next_file)) ≡ Some sure → Step f g m begin r m' → r ≡ sure
+decided begin is f g m m' r sure o b more stops opens has says step =
+    only_sure begin is f g m m' r sure
+    (early_is begin is m ∙ ap (λ (x : Option ℕ). if_read_only x (if_busy (open_job begin m.state) (if_idle (work begin m.state) m.state.next_file))) stops
+    ∙ ap (λ (x : Option ℕ). if_read_only o (if_busy x (if_idle (work begin m.state) m.state.next_file))) opens
+    ∙ ap (λ (n : ℕ). if_read_only o (if_busy b (if_idle n m.state.next_file))) has ∙ says) step
+
+module _ (begin : event) (is : IsBegin begin) (f g : ℕ) (m m' : Machine) (r : reply) (step : Step f g m begin r m') where
+  -- A begin in a store that writes no more is refused for that.
+  pub begin_stopped : (faults : ℕ) → m.read_only ≡ Some faults → r ≡ Refused (ReadOnly faults)
+  begin_stopped faults stops =
+      decided begin is f g m m' r (Refused (ReadOnly faults)) (Some faults) (open_job begin m.state) (work begin m.state) stops refl refl refl step
+
+  -- One while a job of its kind is open is refused for that.
+  pub begin_busy : (number : ℕ) → m.read_only ≡ None → open_job begin m.state ≡ Some number → r ≡ Refused (Busy number)
+  begin_busy number writes opens =
+      decided begin is f g m m' r (Refused (Busy number)) None (Some number) (work begin m.state) writes opens refl refl step
+
+  -- One that has nothing to do is told that.
+  pub begin_idle : m.read_only ≡ None → open_job begin m.state ≡ None → work begin m.state ≡ 0 → r ≡ Nothing
+  begin_idle writes closed none = decided begin is f g m m' r Nothing None None 0 writes closed none refl step
+
+  -- One with something to do for which no file numbers are left is refused for that.
+  pub begin_spent : m.read_only ≡ None → open_job begin m.state ≡ None → 1 ≤ work begin m.state → 4294967294 ≤ m.state.next_file
+      → r ≡ Refused (FilesSpent m.state.next_file)
+  begin_spent writes closed some high =
+      let next = m.state.next_file in
+      decided begin is f g m m' r (Refused (FilesSpent next)) None None (work begin m.state) writes closed refl
+      (ap (λ (t : Bool). if_test t Nothing (if_test (nat_le 4294967294 next) (Refused (FilesSpent next)) None)) (not_none (work begin m.state) some)
+      ∙ ap (λ (t : Bool). if_test t (Refused (FilesSpent next)) None) (no_less 4294967294 next high)) step
+
 -- ---- a write, of either kind
 
 pub data IsWrite : event → Type 0 where
@@ -244,6 +293,14 @@ no_sure : (o : Option ℕ) (r : reply) → o ≡ None → if_read_only o None �
 no_sure None r is e = none_some r e
 no_sure (Some n) r is e = cc
 
+stopped_by : (o : Option ℕ) (faults : ℕ) → if_read_only o None ≡ Some (Refused (ReadOnly faults)) → o ≡ Some faults
+stopped_by None faults e = absurd (none_some (Refused (ReadOnly faults)) e)
+stopped_by (Some n) faults e = cc
+
+not_fault : (o : Option ℕ) → if_read_only o None ≡ Some (Refused Fault) → ⊥
+not_fault None e = cc
+not_fault (Some n) e = cc
+
 not_fine : (o : Option ℕ) → if_read_only o None ≡ Some Fine → ⊥
 not_fine None e = cc
 not_fine (Some n) e = cc
@@ -270,6 +327,24 @@ module _ (e : event) (is : IsWrite e) (f g : ℕ) (m m' : Machine) where
   write_broke writes (Unread reading told rose same) = let bad : ⊥ = (let no = write_reads_not e is in cc) in absurd bad
   write_broke writes (Breaks none does told rose same) = (rose, same)
   write_broke writes (Halts none reclaims does told rose emptied fewer same) = absurd (write_no_reclaim e is reclaims)
+
+  -- One that is refused since the store writes no more finds it so.
+  pub write_stopped : (faults : ℕ) → Step f g m e (Refused (ReadOnly faults)) m' → m.read_only ≡ Some faults
+  write_stopped faults (Sure told same) = stopped_by m.read_only faults (sym (early_write e is m) ∙ told)
+  write_stopped faults (Succeeds none done) = let bad : ⊥ = (let fine = answers_fine e is m m' _ done in cc) in absurd bad
+  write_stopped faults (Lacks none takes told same) = let bad : ⊥ = cc in absurd bad
+  write_stopped faults (Unread reading told rose same) = let bad : ⊥ = cc in absurd bad
+  write_stopped faults (Breaks none does told rose same) = let bad : ⊥ = cc in absurd bad
+  write_stopped faults (Halts none reclaims does told rose emptied fewer same) = let bad : ⊥ = cc in absurd bad
+
+  -- One that the disk failed leaves a store that writes no more.
+  pub write_halted : Step f g m e (Refused Fault) m' → Rose f g × (m' ≡ broken g m)
+  write_halted (Sure told same) = absurd (not_fault m.read_only (sym (early_write e is m) ∙ told))
+  write_halted (Succeeds none done) = let bad : ⊥ = (let fine = answers_fine e is m m' _ done in cc) in absurd bad
+  write_halted (Lacks none takes told same) = let bad : ⊥ = cc in absurd bad
+  write_halted (Unread reading told rose same) = let bad : ⊥ = (let no = write_reads_not e is in cc) in absurd bad
+  write_halted (Breaks none does told rose same) = (rose, same)
+  write_halted (Halts none reclaims does told rose emptied fewer same) = absurd (write_no_reclaim e is reclaims)
 
   pub write_done : Step f g m e Fine m' → Happens m e Fine m'
   write_done (Sure told same) = absurd (not_fine m.read_only (sym (early_write e is m) ∙ told))

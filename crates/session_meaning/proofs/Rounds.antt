@@ -116,11 +116,11 @@ flush_does calls round before after leads lead = leads_does stage.Fresh calls ro
 
 -- ---- a compaction
 
-abbrev of_blocks : Joining → Job
+abbrev pub of_blocks : Joining → Job
 of_blocks job = OfBlocks (parts_of job)
 
 -- the files of these blocks are among these
-abbrev AreAmong : List InfoParts → List ℕ → Type 0
+abbrev pub AreAmong : List InfoParts → List ℕ → Type 0
 AreAmong [] files = ⊤
 AreAmong (info ∷ infos) files = (is_among info.file files ≡ true) × AreAmong infos files
 
@@ -132,7 +132,7 @@ among_more : (infos : List InfoParts) (files : List ℕ) (file : ℕ) → AreAmo
 among_more [] files file are = tt
 among_more (info ∷ infos) files file are = (or_later _ (is_among info.file files) are.0, among_more infos files file are.1)
 
-own_among : (infos : List InfoParts) → AreAmong infos (info_files infos)
+pub own_among : (infos : List InfoParts) → AreAmong infos (info_files infos)
 own_among [] = tt
 own_among (info ∷ infos) =
     (ap (λ (t : Bool). t || is_among info.file (info_files infos)) (equal_itself info.file), among_more infos (info_files infos) info.file (own_among infos))

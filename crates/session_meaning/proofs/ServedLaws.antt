@@ -126,11 +126,11 @@ none_of client (script ∷ others) (answered ∷ answers) entries (is, none) (on
         differs is = let e : (seat == client) ≡ true = ap (λ (n : ℕ). n == client) is ∙ equal_itself client in let bad : ⊥ = cc in bad
 
 -- Each call is of a seat below this number.
-abbrev AllBelow : ℕ → List Entry → Type 0
+abbrev pub AllBelow : ℕ → List Entry → Type 0
 AllBelow n [] = Unit {0}
 AllBelow n (e ∷ es) = (e.seat < n) × AllBelow n es
 
-all_below : (n : ℕ) (es : List Entry) → ((e : Entry) → Contains es e → e.seat < n) → AllBelow n es
+pub all_below : (n : ℕ) (es : List Entry) → ((e : Entry) → Contains es e → e.seat < n) → AllBelow n es
 all_below n [] whose = tt
 all_below n (e ∷ es) whose = (whose e (0, omega arith, refl), all_below n es (λ x c. whose x (suc c.0, omega (arith, c.1), c.2)))
 
@@ -155,7 +155,7 @@ all_own n (e ∷ es) (here, below) none = at e.seat refl (all_own n es below (λ
         let gone : map call_of (e ∷ own (e.seat ∷ []) es) ≡ [] = ap (map call_of) (sym (own_itself e es)) ∙ none e.seat (omega (arith, is)) here in
         let bad : ⊥ = cc in absurd bad
 
-not_fewer : (a b : ℕ) → nat_lt a b ≡ false → b ≤ a
+pub not_fewer : (a b : ℕ) → nat_lt a b ≡ false → b ≤ a
 not_fewer a b is = grind arith
 
 pub one_session : (told : Bool) (first last : At) (script : List Item) (others : List (List Item)) (answered : Answered) (answers : List Answered) (entries : List Entry)

@@ -61,13 +61,13 @@ led_since start told first last (e ∷ es) (between, made, rest) since =
 
 module _ (told : Bool) (first last : At) (entries : List Entry) (client : ℕ) (asked : List Item) (got : List Reply) (front : List Call) (place : CallPlace told first entries last client asked got front) where
   -- A call that rose the count of faults did so for all.
-  rose_there : Rose place.before.faults place.after.faults → Rose first.faults last.faults
+  pub rose_there : Rose place.before.faults place.after.faults → Rose first.faults last.faults
   rose_there rose =
       rose_from first.faults place.before.faults last.faults (led_later told first place.before place.earlier place.to)
       (rose_to place.before.faults place.after.faults last.faults rose (led_later told place.after last place.later place.from))
 
   -- The store writes at each place, where no call failed.
-  writes_there : first.machine.read_only ≡ None → (Rose first.faults last.faults → ⊥) → place.before.machine.read_only ≡ None
+  pub writes_there : first.machine.read_only ≡ None → (Rose first.faults last.faults → ⊥) → place.before.machine.read_only ≡ None
   writes_there writes well = go (led_since first.faults told first place.before place.earlier place.to (omega arith, inl writes)).1
     where
       go : HasFailedSince first.faults place.before → place.before.machine.read_only ≡ None
@@ -79,7 +79,7 @@ module _ (told : Bool) (first last : At) (entries : List Entry) (client : ℕ) (
 
 -- ---- one call
 
-call_plain : (told : Bool) (item : Item) (before after : At) (r : Reply) → TakesOneCall item → IsAnswered told item before r after → (Rose before.faults after.faults → ⊥)
+pub call_plain : (told : Bool) (item : Item) (before after : At) (r : Reply) → TakesOneCall item → IsAnswered told item before r after → (Rose before.faults after.faults → ⊥)
     → before.machine.read_only ≡ None → HasRoomNow item before.machine → is_refusal r ≡ is_refused item
 call_plain told (Ok (request.Push reading moment)) before after r takes (answer, is, step) well writes room =
     let spans = reading.batch.spans in
@@ -113,25 +113,25 @@ room_there told first last scripts answers entries client asked got item reply r
 -- ---- a query
 
 -- What is told of an answer: that it is a refusal only where the answer is none.
-abbrev Tells : {A : Type 0} → Result A QueryError → Reply → Type 0
+abbrev pub Tells : {A : Type 0} → Result A QueryError → Reply → Type 0
 Tells (Ok x) r = is_refusal r ≡ false
 Tells (Err e) r = r ≡ Refused (query_refusal e)
 
-trace_tells : (answer : Result TraceAnswer QueryError) (r : Reply) → r ≡ trace_reply answer → Tells answer r
+pub trace_tells : (answer : Result TraceAnswer QueryError) (r : Reply) → r ≡ trace_reply answer → Tells answer r
 trace_tells (Ok x) r is = ap is_refusal is
 trace_tells (Err e) r is = is
 
-search_tells : (asked : Asked) (answer : Result SearchAnswer QueryError) (r : Reply) → IsSearchTold asked answer r → Tells answer r
+pub search_tells : (asked : Asked) (answer : Result SearchAnswer QueryError) (r : Reply) → IsSearchTold asked answer r → Tells answer r
 search_tells asked (Ok x) r (inl is) = ap is_refusal is
 search_tells asked (Ok x) r (inr is) = ap is_refusal is
 search_tells asked (Err e) r is = is
 
-metrics_tells : (start end step : ℕ) (rate : Bool) (answer : Result SearchAnswer QueryError) (r : Reply) → AreSeriesTold start end step rate answer r → Tells answer r
+pub metrics_tells : (start end step : ℕ) (rate : Bool) (answer : Result SearchAnswer QueryError) (r : Reply) → AreSeriesTold start end step rate answer r → Tells answer r
 metrics_tells start end step rate (Ok x) r (inl (series, are, is)) = ap is_refusal is
 metrics_tells start end step rate (Ok x) r (inr is) = ap is_refusal is
 metrics_tells start end step rate (Err e) r is = is
 
-both_tell : {A B : Type 0} (fits : B → Type 0) (one : Result A QueryError) (other : Result B QueryError) (r : Reply) → Tells one r → Tells other r → Sound fits other → (one ≡ Err error.Fault → ⊥) → is_refusal r ≡ false
+pub both_tell : {A B : Type 0} (fits : B → Type 0) (one : Result A QueryError) (other : Result B QueryError) (r : Reply) → Tells one r → Tells other r → Sound fits other → (one ≡ Err error.Fault → ⊥) → is_refusal r ≡ false
 both_tell fits (Ok x) other r tells also sound none = tells
 both_tell fits (Err error.Fault) other r tells also sound none = absurd (none refl)
 both_tell fits (Err error.Memory) other r tells also sound none = ap is_refusal tells
@@ -141,14 +141,14 @@ both_tell fits (Err (error.NotBlock file at)) (Err (error.NotBlock f a)) r tells
 both_tell fits (Err (error.NotBlock file at)) (Err error.Memory) r tells also sound none = ap is_refusal also
 
 -- A query that a fault ended made a call that failed.
-record FailsIn (calls : List Call) : Type 0 where
-  front : List Call
-  c : Call
-  back : List Call
-  are : calls ≡ front ++ c ∷ back
-  fault : is_fault c.reply ≡ true
+pub record FailsIn (calls : List Call) : Type 0 where
+  pub front : List Call
+  pub c : Call
+  pub back : List Call
+  pub are : calls ≡ front ++ c ∷ back
+  pub fault : is_fault c.reply ≡ true
 
-query_fails : {A : Type 0} (tells : ℕ → List Row → A → Type 0) (r : Result A QueryError) (calls : List Call) → IsAsked tells r calls → r ≡ Err error.Fault → FailsIn calls
+pub query_fails : {A : Type 0} (tells : ℕ → List Row → A → Type 0) (r : Result A QueryError) (calls : List Call) → IsAsked tells r calls → r ≡ Err error.Fault → FailsIn calls
 query_fails tells (Ok x) calls is fault = let bad : ⊥ = cc in absurd bad
 query_fails tells (Err error.Memory) calls is fault = let bad : ⊥ = cc in absurd bad
 query_fails tells (Err (error.NotBlock file at)) calls is fault = let bad : ⊥ = cc in absurd bad
@@ -163,7 +163,7 @@ query_fails tells (Err error.Fault) calls (inr (look, reads, are, (given, file, 
 }
 
 -- what is told of the history by the reply to an item
-abbrev ToldOf : History → ℕ → Item → Reply → Type 0
+abbrev pub ToldOf : History → ℕ → Item → Reply → Type 0
 ToldOf h least (Ok asked) r = IsToldOf h least asked r
 ToldOf h least (Err why) r = ⊤
 
@@ -180,7 +180,7 @@ in_told h least (Ok q ∷ items) (r ∷ replies) (a ∷ asked) (g ∷ got) item 
     in_told h (max least (told_length r)) items replies asked got item reply are.1 later
 in_told h least (Err why ∷ items) (r ∷ replies) (a ∷ asked) (g ∷ got) item reply are (same, also, later) = in_told h least items replies asked got item reply are later
 
-in_all : (h : History) (least : ℕ) (scripts : List (List Item)) (answers : List Answered) (client : ℕ) (asked : List Item) (got : List Reply) (item : Item) (reply : Reply) → AllTold h least scripts answers
+pub in_all : (h : History) (least : ℕ) (scripts : List (List Item)) (answers : List Answered) (client : ℕ) (asked : List Item) (got : List Reply) (item : Item) (reply : Reply) → AllTold h least scripts answers
     → WasReplied scripts answers client asked got item reply → (n : ℕ) × ToldOf h n item reply
 in_all h least [] answers client asked got item reply all this = absurd this
 in_all h least (script ∷ scripts) [] client asked got item reply all this = absurd this

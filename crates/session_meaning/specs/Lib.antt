@@ -19,7 +19,11 @@ pub mod Causes
 pub mod Answering
 pub mod Serving
 pub mod Runs
+pub mod LinePlaces
 pub mod Stops
 pub mod ServedRuns
 pub mod Progress
 pub mod ServedReplies
+pub mod ServedRounds
+pub mod ServedWhole
+pub mod ServedFaults

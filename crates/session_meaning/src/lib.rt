@@ -8,7 +8,11 @@
 
 mod ending;
 mod laws;
+mod line_laws;
+mod serving_faults;
 mod serving_laws;
+mod serving_replies;
+mod serving_rounds;
 
 pub use ending::Ending;
 pub use laws::{
@@ -22,9 +26,16 @@ pub use laws::{
     upkeep_stands_on_the_disk, what_has_room_is_done, what_is_asked_in_between_is_a_session,
     what_is_stored_is_a_base,
 };
+pub use line_laws::{a_line_with_room_is_done, read_only_names_its_fault};
+pub use serving_faults::{
+    a_store_of_clients_stays_read_only, each_disk_fault_of_clients_is_counted,
+    what_does_not_fail_is_done_among_clients,
+};
 pub use serving_laws::{
     calls_of_clients_are_steps, clients_make_the_history, compactions_of_clients_are_counted,
     numbers_are_given_once, one_call_answers_at_its_place, one_script_is_a_session,
     pushes_of_clients_have_their_causes, serving_comes_to_an_end,
     what_has_room_is_done_among_clients, what_was_seen_counts,
 };
+pub use serving_replies::{each_item_has_its_reply, queries_of_clients_have_their_causes};
+pub use serving_rounds::{rounds_of_clients_are_counted, rounds_of_clients_have_their_causes};
