@@ -77,5 +77,5 @@ fn two_searches_and_a_push_at_once(rt: HostRuntime) {
     // Both looks come before the push.
     let lines =
         b"0 ok search as_of=0 traces=0 {\"traces\":[]}\n1 ok search as_of=0 traces=0 {\"traces\":[]}\n1 ok push 0 accepted=1 rejected=0 skipped=0\n";
-    assert_eq!(rt; text, lines);
+    assert_eq!(rt; text, lines.as_slice());
 }
