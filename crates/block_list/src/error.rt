@@ -14,7 +14,7 @@ pub enum ListError {
     /// A slot breaks the format of a list, at that byte.
     #[error("slot {slot} is no list, at {at}")]
     NotList { slot: u32, at: u64 },
-    /// Memory was wanted and not given.
+    /// Out of memory.
     #[error("memory")]
     Memory,
 }

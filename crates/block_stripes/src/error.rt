@@ -8,7 +8,7 @@ pub enum FormatError {
     /// The bytes break the format of a block; `at` is the first byte in the file of the first field that does.
     #[error("no block, at {at}")]
     NotBlock { at: u64 },
-    /// Memory was wanted and not given.
+    /// Out of memory.
     #[error("memory")]
     Memory,
 }

@@ -14,7 +14,7 @@ pub enum FieldError {
     /// A text is not UTF-8; `at` is the first byte of its length.
     #[error("a text is not UTF-8, at {at}")]
     NotText { at: u64 },
-    /// Memory was wanted and not given.
+    /// Out of memory.
     #[error("memory")]
     Memory,
 }

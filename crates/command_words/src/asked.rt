@@ -37,7 +37,7 @@ pub enum WordsError {
     /// The words ask nothing that the program does.
     #[error("faulty command line")]
     Refused,
-    /// Memory was wanted and not given.
+    /// Out of memory.
     #[error("memory")]
     Memory,
 }

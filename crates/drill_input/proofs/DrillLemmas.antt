@@ -13,7 +13,7 @@ use Rattle.drill_input.specs.Drill.{below, drawn_line, drawn_span, drawn_spans, 
 abbrev pub behind : List Span → List Span × List ℕ → List Span × List ℕ
 behind before drawn = (before ++ drawn.0, drawn.1)
 
--- one span, and those that are drawn behind it
+-- one span, and those that are drawn after it
 abbrev first_of_all : Span × List ℕ → (List ℕ → List Span × List ℕ) → List Span × List ℕ
 first_of_all p later = (p.0 ∷ (later p.1).0, (later p.1).1)
 
@@ -25,7 +25,7 @@ spans_none : (o : Origin) (j : ℕ) (s : List ℕ) → drawn_spans o j zero s �
 unfolding drawn_spans
 spans_none o j s = refl
 
--- the spans before span j, that span, and those behind it
+-- the spans before span j, that span, and those after it
 pub one_more : (o : Origin) (j count : ℕ) (s later : List ℕ) (before : List Span) (span : Span) → j < count → (span, later) ≡ drawn_span o j s
     → behind before (drawn_spans o j (count - j) s) ≡ behind (before ++ span ∷ []) (drawn_spans o (j + 1) (count - (j + 1)) later)
 one_more o j count s later before span more is =

@@ -29,7 +29,7 @@ pub enum LogError {
     /// The file is no segment: its bytes break the grammar first at this place.
     #[error("file {file} is no log segment: it breaks at {at}")]
     NotLog { file: u32, at: u64 },
-    /// Memory was wanted and not given.
+    /// Out of memory.
     #[error("memory")]
     Memory,
 }
@@ -39,7 +39,7 @@ pub enum LogError {
 pub enum Unread {
     /// A call of the disk failed.
     Fault,
-    /// Memory was wanted and not given.
+    /// Out of memory.
     Memory,
 }
 

@@ -55,7 +55,7 @@ pub enum LineError {
     /// The source failed.
     #[error("fault")]
     Fault,
-    /// Memory was wanted and not given.
+    /// Out of memory.
     #[error("memory")]
     Memory,
 }

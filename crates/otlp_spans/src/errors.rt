@@ -28,7 +28,7 @@ pub enum OtlpError {
         /// How many it has, at most 2^64 - 1.
         spans: u64,
     },
-    /// Memory was wanted and not given.
+    /// Out of memory.
     #[error("memory")]
     Memory,
 }
@@ -62,7 +62,7 @@ impl<T: Drop> From<AllocFailed<T>> for OtlpError {
 pub(crate) enum Stop {
     /// A part has the wrong form, at this path from the value that is read.
     Wrong(Path),
-    /// Memory was wanted and not given.
+    /// Out of memory.
     Memory,
 }
 

@@ -31,7 +31,7 @@ break_of within at (NotShortest place) = breaks.At place
 break_of within at (NotText place) = breaks.At place
 break_of within at Memory = breaks.Memory
 
--- What a call answered is that reading breaks there, or memory was wanted.
+-- What a call answered is that reading breaks there, or the call was out of memory.
 abbrev pub Fails : {Y : Type 0} → Break → Result Y ℕ → Type 0
 Fails breaks.Memory read = Unit {0}
 Fails (breaks.At place) read = read ≡ Err place

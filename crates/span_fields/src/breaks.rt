@@ -14,7 +14,7 @@ use std::alloc::{AllocError, AllocFailed};
 pub enum Break {
     /// Its bytes break the grammar at this place.
     At(u64),
-    /// Memory was wanted and not given.
+    /// Out of memory.
     Memory,
 }
 
@@ -43,7 +43,7 @@ impl<T: Drop> From<AllocFailed<T>> for Break {
 }
 
 /// What a field's error is, where the field begins at `at`. A field that is too long for its part is at fault itself, where
-/// the file goes on behind the part; where it doesn't, the file is too short.
+/// the file goes on after the part; where it doesn't, the file is too short.
 pub fn broken(error: FieldError, at: u64, within: bool) -> Break
     ensures { result ≡ break_of within at error }
 {

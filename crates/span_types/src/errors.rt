@@ -3,7 +3,7 @@
 use std::alloc::{AllocError, AllocFailed};
 use thiserror::Error;
 
-/// Memory was wanted and not given. It is the one answer that may come at any growth.
+/// Out of memory. It is the one answer that may come at any growth.
 #[derive(Clone, Copy, Debug, PartialEq, Eq, Error)]
 #[error("memory")]
 pub struct Memory;

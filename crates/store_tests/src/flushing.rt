@@ -141,7 +141,7 @@ fn left_by_a_failed_flush(alloc: Global, call: u64) -> Option<MemDisk> {
     (pushed && ready && found == Some(FAILS)).then_some(disk)
 }
 
-// Whether a flush whose call of this number fails leaves files behind or none, and the next opening, which finds the push, frees them.
+// Whether a flush whose call of this number fails leaves files or none, and the next opening, which finds the push, frees them.
 fn is_freed(alloc: Global, call: u64) -> Result<bool, Fail> {
     let Some(disk) = left_by_a_failed_flush(alloc, call) else {
         return Ok(false);

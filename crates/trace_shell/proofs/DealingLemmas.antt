@@ -33,7 +33,7 @@ dealt_empty clients ([] ∷ lines) told dealt refused h = dealt_empty clients li
 dealt_empty clients ((b ∷ bs) ∷ lines) told [] refused h = h
 dealt_empty clients ((b ∷ bs) ∷ lines) told (one ∷ more) refused h = (h.0, h.1, h.2, h.3, h.4, h.5, dealt_empty clients lines (after_moment told) more h.2 h.6)
 
--- Any other line is dealt behind those before.
+-- Any other line is dealt after those before.
 dealt_line : (clients : ℕ) (lines : List (List ℕ)) (told : Option (List ℕ)) (dealt : List Dealt) (refused : List (List ℕ)) (b : ℕ) (bs : List ℕ) (one : Dealt) (now : List (List ℕ)) (moment : ℕ)
     → AreDealt clients lines told dealt refused → IsNextMoment (after_lines lines told) moment → IsDealt clients moment (b ∷ bs) now one
     → AreDealt clients (lines ++ (b ∷ bs) ∷ []) told (dealt ++ one ∷ []) (refused ++ now)
@@ -337,7 +337,7 @@ moved_one all old new script rest later was next added =
     ∙ sym (append_assoc old (script.items ∷ []) (scripts_in later))
     ∙ ap (λ (n : List (List Item)). n ++ scripts_in later) (sym added)
 
--- All were, and two more stand behind them.
+-- All were, and two more stand after them.
 pub moved_all : (all moved one two : List (List Item)) (cuts joins : List Item) → all ≡ moved ++ [] → one ≡ moved ++ cuts ∷ [] → two ≡ one ++ joins ∷ [] → two ≡ all ++ cuts ∷ joins ∷ []
 moved_all all moved one two cuts joins none first second =
     second

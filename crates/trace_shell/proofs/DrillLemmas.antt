@@ -170,7 +170,7 @@ pub on_err_any : {T E P : Type 0} (r : Result T E) → P → OnErr r P
 on_err_any (Ok x) h = tt
 on_err_any (Err e) h = h
 
--- Of replies behind others the last three are these.
+-- Of replies after others the last three are these.
 past_front : (xs ys : List Reply) → drop (length xs) (xs ++ ys) ≡ ys
 past_front [] ys = refl
 past_front (x ∷ xs) ys = past_front xs ys

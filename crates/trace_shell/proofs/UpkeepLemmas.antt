@@ -62,6 +62,6 @@ compactions_more (suc n) =
     let more : suc n + 1 ≡ suc (n + 1) = omega arith in
     ap compactions more ∙ ap (λ (xs : List Item). Ok Compact ∷ Ok Reclaim ∷ xs) (compactions_more n)
 
--- Two requests were put behind others.
+-- Two requests were put after others.
 pub put_both : (old between new : List Item) (one two : Item) → between ≡ old ++ one ∷ [] → new ≡ between ++ two ∷ [] → new ≡ old ++ one ∷ two ∷ []
 put_both old between new one two first second = second ∙ ap (λ (xs : List Item). xs ++ two ∷ []) first ∙ append_assoc old (one ∷ []) (two ∷ [])

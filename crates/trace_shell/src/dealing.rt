@@ -1,5 +1,5 @@
 //! The lines of a source are read to its end and dealt to clients, and the requests that keep a store up are written
-//! down behind them. Nothing is asked of a store here.
+//! down after them. Nothing is asked of a store here.
 
 ghost use Rattle.std.specs.Prelude.{◌≡◌, ◌⊎◌, ◌+◌, ◌*◌, ◌<◌, ◌≤◌, ◌++◌, ℕ, List, [], ◌∷◌, Option, Some, Ok, IfErr, IfNone, IfOk, IfSome, MatchResult, OnErr, decimal, length, replicate, vec_capacity, vec_len};
 ghost use Rattle.span_types.specs.Faults.{Rose};
@@ -236,7 +236,7 @@ fn after_space(text: &[u8]) -> Option<&[u8]>
     text.strip_prefix(b" ")
 }
 
-// Puts what a client asks behind what it asked before.
+// Puts what a client asks after what it asked before.
 fn give(scripts: &mut Vec<Vec<Item>>, client: u32, item: Item) -> After
     requires { client < vec_len scripts.old }
     ensures given { IsGiven client item (scripts_in scripts.old.items)
@@ -251,7 +251,7 @@ fn give(scripts: &mut Vec<Vec<Item>>, client: u32, item: Item) -> After
     After::Line
 }
 
-/// What the clients ask, and behind that two scripts that keep the store up, so many rounds each: one of cuts and
+/// What the clients ask, and after that two scripts that keep the store up, so many rounds each: one of cuts and
 /// flushes, and one of compactions and the emptying of loose files. Each of their requests is read at the clock's next
 /// moment. Out of memory the clock isn't asked.
 pub(crate) fn with_upkeep<C: Clock>(
@@ -281,7 +281,7 @@ pub(crate) fn with_upkeep<C: Clock>(
     Ok(all)
 }
 
-// Puts a script behind others, where there is room for it.
+// Puts a script after others, where there is room for it.
 fn add(all: &mut Scripts, script: Vec<Item>)
     requires { vec_len all.old < vec_capacity all.old }
     ensures added { all.new.items ≡ all.old.items ++ script.items ∷ [] }
@@ -323,7 +323,7 @@ fn compact_and_reclaim<C: Clock>(items: &mut Vec<Item>, rounds: u32, clock: &mut
     }
 }
 
-// Puts a request behind others, where there is room for it.
+// Puts a request after others, where there is room for it.
 fn put(items: &mut Vec<Item>, request: Request)
     requires { vec_len items.old < vec_capacity items.old }
     ensures put { items.new.items ≡ items.old.items ++ Ok request ∷ [] }
