@@ -17,17 +17,19 @@ use search_text::printed_fields;
 use session_text::{Metrics, Refusal, Reply, Request, Search};
 use span_types::{Batch, Memory, TraceId};
 use std::alloc::Global;
+use std::thread::Threads;
 use store_state::{FlushPort, LookPort, Port, PushError, ReclaimError, Round};
 use traceql_metrics::series;
 
 /// Answers a request over a port, for the client with this number.
 ///
 /// A push, a cut and the emptying of loose files are one call each, and a flush and a compaction are one round each. A
-/// look-up, a search or a metrics query takes one look, reads the blocks that it pins and gives it back. Out of memory
-/// a request is refused for that; whether a push was refused the port says. The gate is passed at twice the client's
-/// number between the look of a search or a metrics query and its evaluation, and at one more after each push that was
-/// accepted.
-pub fn answer_request<P: Port, G: Gate>(
+/// look-up, a search or a metrics query takes one look, reads the blocks that it pins and gives it back; those that
+/// evaluate many traces do so in threads, which end before the look does. Out of memory a request is refused for that;
+/// whether a push was refused the port says. The gate is passed at twice the client's number between the look of a
+/// search or a metrics query and its evaluation, and at one more after each push that was accepted.
+pub fn answer_request<R: Threads + Sync, P: Port, G: Gate>(
+    rt: &R,
     alloc: Global,
     port: &mut P,
     request: Request,
@@ -41,8 +43,8 @@ pub fn answer_request<P: Port, G: Gate>(
     match request {
         Request::Push { reading, moment } => push(port, reading, moment, client, gate),
         Request::Trace(id) => trace(alloc, port, id),
-        Request::Search(asks) => search(alloc, port, asks, client, gate),
-        Request::Metrics(asks) => metrics(alloc, port, asks, client, gate),
+        Request::Search(asks) => search(rt, alloc, port, asks, client, gate),
+        Request::Metrics(asks) => metrics(rt, alloc, port, asks, client, gate),
         Request::Cut { moment } => cut(port, moment),
         Request::CutAll => cut_all(port),
         Request::Flush => flush(alloc, port),
@@ -208,18 +210,20 @@ fn trace_reply(answer: Result<TraceAnswer, QueryError>) -> Reply
 }
 
 // Tells what a search finds.
-fn search<P: FlushPort, G: Gate>(
+fn search<R: Threads + Sync, P: FlushPort, G: Gate>(
+    rt: &R,
     alloc: Global,
     port: &mut P,
     asks: Search,
     client: u32,
     gate: &G,
 ) -> Reply
-    requires { (held : List Hold) × P.meaning.holds port.old held }
+    requires holds { (held : List Hold) × P.meaning.holds port.old held }
+    requires client { client < 2 ^ 31 }
     ensures { HasReplied P.meaning port.old (AsksSearch asks) result port.new }
 {
     let asked = asked_of(asks);
-    let answer = query_fanout::search(alloc, port, &asked, client, gate);
+    let answer = query_fanout::search(rt, alloc, port, &asked, client, gate);
     search_reply(alloc, &asked, answer)
 }
 
@@ -259,19 +263,21 @@ fn search_reply(alloc: Global, asked: &Asked, answer: Result<SearchAnswer, Query
 }
 
 // Tells how many of the spans that a query finds begin in each bucket.
-fn metrics<P: FlushPort, G: Gate>(
+fn metrics<R: Threads + Sync, P: FlushPort, G: Gate>(
+    rt: &R,
     alloc: Global,
     port: &mut P,
     asks: Metrics,
     client: u32,
     gate: &G,
 ) -> Reply
-    requires { (held : List Hold) × P.meaning.holds port.old held }
+    requires holds { (held : List Hold) × P.meaning.holds port.old held }
+    requires client { client < 2 ^ 31 }
     ensures { HasReplied P.meaning port.old (AsksMetrics asks) result port.new }
 {
     let (start, end, step, rate) = (asks.start, asks.end, asks.step, asks.rate);
     let asked = counted_of(asks);
-    let answer = query_fanout::search(alloc, port, &asked, client, gate);
+    let answer = query_fanout::search(rt, alloc, port, &asked, client, gate);
     series_reply(alloc, start, end, step, rate, answer)
 }
 

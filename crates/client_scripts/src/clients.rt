@@ -126,7 +126,7 @@ fn run_one<R: Threads + Wait + Sync, Q: Port, G: Gate>(
     ensures { HasAnswered (seat_meaning Q.meaning) ticket script result.1 result.0 }
 {
     let mut seat = PortSeat::enter(rt, store, ticket);
-    let answered = answer_script(alloc, &mut seat, script, client, gate);
+    let answered = answer_script(rt, alloc, &mut seat, script, client, gate);
     (seat.leave(), answered)
 }
 

@@ -9,6 +9,7 @@ use io_edges::Gate;
 use session_text::{Refusal, Reply, Request};
 use span_types::Seq;
 use std::alloc::Global;
+use std::thread::Threads;
 use store_state::Port;
 
 /// What a client asks at once: a request, or a refusal that was made in reading.
@@ -30,7 +31,8 @@ pub struct Answered {
 ///
 /// The place of a reply is reserved before its item is answered, so no event happens whose reply is lost. If there is no memory for
 /// it the script ends there, and none of the later items makes an event.
-pub fn answer_script<P: Port, G: Gate>(
+pub fn answer_script<R: Threads + Sync, P: Port, G: Gate>(
+    rt: &R,
     alloc: Global,
     port: &mut P,
     script: Script,
@@ -49,7 +51,7 @@ pub fn answer_script<P: Port, G: Gate>(
                 starved: true,
             };
         }
-        let reply = answer_item(alloc, port, item, client, gate);
+        let reply = answer_item(rt, alloc, port, item, client, gate);
         let Ok(()) = replies.push(reply) else {
             unreachable!()
         };
@@ -61,7 +63,8 @@ pub fn answer_script<P: Port, G: Gate>(
 }
 
 // Answers an item. A refusal that was made in reading is its own reply.
-fn answer_item<P: Port, G: Gate>(
+fn answer_item<R: Threads + Sync, P: Port, G: Gate>(
+    rt: &R,
     alloc: Global,
     port: &mut P,
     item: Item,
@@ -73,7 +76,7 @@ fn answer_item<P: Port, G: Gate>(
     ensures { IsAnsweredOver P.meaning port.old item result port.new }
 {
     match item {
-        Ok(request) => answer_request(alloc, port, request, client, gate),
+        Ok(request) => answer_request(rt, alloc, port, request, client, gate),
         Err(why) => Reply::Refused(why),
     }
 }

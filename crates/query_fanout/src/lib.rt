@@ -5,7 +5,7 @@
 //! - What a search picks: `picks` in the look's rows, `scans` in the blocks, each gone through as far as `reach` says;
 //!   `waits` keeps picks that aren't taken yet.
 //! - What it answers: `taking`, a few picks at a time in the order of `turns`, over the rows in memory (`own`) and
-//!   those of the blocks.
+//!   those of the blocks. Many traces are evaluated in threads; all else is done in the caller's.
 //! - Reading blocks: `blocks`, over `pinned`, by which an open look's blocks are a source of pages.
 //! - `error` is why a query fails. `laws` holds theorems: the few at a time answer what all rows would.
 //!

@@ -21,6 +21,7 @@ use column_scan::{Pick, Sifter, in_order};
 use search_answer::Best;
 use span_types::Memory;
 use std::alloc::Global;
+use std::thread::Threads;
 use store_state::{FlushPort, Look};
 
 /// How far a search has come: all picks of traces that are gone through were taken, and these are the best results of
@@ -38,7 +39,8 @@ pub(crate) struct Rounds<'l> {
 /// A block's rows ascend by trace. So once each block is gone through up to some trace, all picks below the least of
 /// these traces are there, and are taken. A round needs memory for its own picks, the picks that wait, and the rows of
 /// a few traces.
-pub(crate) fn take_rounds<P: FlushPort>(
+pub(crate) fn take_rounds<R: Threads + Sync, P: FlushPort>(
+    rt: &R,
     alloc: Global,
     port: &mut P,
     look: &Look,
@@ -63,10 +65,10 @@ pub(crate) fn take_rounds<P: FlushPort>(
         Err(Memory) => return Err(QueryError::Memory),
     };
     while let Some(at) = least(rounds.scans.as_slice()) {
-        let next = one_round(alloc, port, look, own, asked, sifter, at, rounds)?;
+        let next = one_round(rt, alloc, port, look, own, asked, sifter, at, rounds)?;
         rounds = next;
     }
-    let all = take_gone(alloc, port, look, own, asked, Reach::Whole, rounds)?;
+    let all = take_gone(rt, alloc, port, look, own, asked, Reach::Whole, rounds)?;
     Ok(all.best)
 }
 
@@ -92,7 +94,8 @@ fn begin<'l>(
 }
 
 // All picks are taken up to where the scan is that has come least far, and it goes on.
-fn one_round<'l, P: FlushPort>(
+fn one_round<'l, R: Threads + Sync, P: FlushPort>(
+    rt: &R,
     alloc: Global,
     port: &mut P,
     look: &Look,
@@ -112,12 +115,13 @@ fn one_round<'l, P: FlushPort>(
     ensures sifter { sifter.new ≡ sifter.old }
 {
     let bound = rounds.scans[at].upto;
-    let taken = take_gone(alloc, port, look, own, asked, bound, rounds)?;
+    let taken = take_gone(rt, alloc, port, look, own, asked, bound, rounds)?;
     go_on_at(alloc, port, look, own, asked, sifter, at, taken)
 }
 
 // The picks that wait below a bound are taken, if all scans have come so far.
-fn take_gone<'l, P: FlushPort>(
+fn take_gone<'l, R: Threads + Sync, P: FlushPort>(
+    rt: &R,
     alloc: Global,
     port: &mut P,
     look: &Look,
@@ -142,7 +146,7 @@ fn take_gone<'l, P: FlushPort>(
         Ok(parted) => parted,
         Err(Memory) => return Err(QueryError::Memory),
     };
-    let best = take_picks(alloc, port, look, own, asked, picks, rounds.best)?;
+    let best = take_picks(rt, alloc, port, look, own, asked, picks, rounds.best)?;
     Ok(Rounds {
         scans: rounds.scans,
         waits: left,

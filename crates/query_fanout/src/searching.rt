@@ -1,6 +1,6 @@
 //! A search over one look: it is taken, what is found in `rounds` is told, and it is given back in every case.
 
-ghost use Rattle.std.specs.Prelude.{◌++◌, IsTrue, List};
+ghost use Rattle.std.specs.Prelude.{◌++◌, ◌<◌, ◌^◌, IsTrue, List};
 ghost use Rattle.store_model.specs.Holds.{Hold};
 ghost use Rattle.store_state.specs.Given.{look_of};
 ghost use Rattle.store_state.specs.Kept.{Kept};
@@ -21,6 +21,7 @@ use moment_range::Range;
 use span_types::Memory;
 use spanset_eval::Results;
 use std::alloc::Global;
+use std::thread::Threads;
 use store_state::{FlushPort, Look};
 use traceql_types::Checked;
 
@@ -53,18 +54,21 @@ pub struct SearchAnswer {
 /// traces are picked that have a sifted span, one that the query's sieve lets through, each with the latest start
 /// among its sifted spans: in the look's rows, and in each block by the stripes that may have one. Those that are
 /// picked in a round are looked up and answered a few at a time, those of late moments first, but for those of which
-/// no result can come among the best so far; `bounded` says how many pages that is at most. No rows are kept but those
-/// of a few traces, beside a list of the look's rows by trace, which shares them and copies none, and no picks but
-/// those of a round and those that wait for one. The look is given back in every case. For a test, the gate is passed
-/// at twice the client's number, modulo 2^32, between the look and all else.
-pub fn search<P: FlushPort, G: Gate>(
+/// no result can come among the best so far; `bounded` says how many pages that is at most. Many traces are evaluated
+/// in threads, which have ended before the next ones are looked up. No rows are kept but those of a few traces, beside
+/// a list of the look's rows by trace, which shares them and copies none, and no picks but those of a round and those
+/// that wait for one. The look is given back in every case. For a test, the gate is passed at twice the client's number
+/// between the look and all else.
+pub fn search<R: Threads + Sync, P: FlushPort, G: Gate>(
+    rt: &R,
     alloc: Global,
     port: &mut P,
     asked: &Asked,
     client: u32,
     gate: &G,
 ) -> Result<SearchAnswer, QueryError>
-    requires { (held : List Hold) × P.meaning.holds port.old held }
+    requires holds { (held : List Hold) × P.meaning.holds port.old held }
+    requires client { client < 2 ^ 31 }
     ensures asked { HasAsked P.meaning port.old (IsSearchAnswer asked.now) result port.new }
     ensures bounded { IsTrue (P.meaning.tells port.old) → (kept : Kept)
         → P.meaning.keeps port.old kept
@@ -74,14 +78,15 @@ pub fn search<P: FlushPort, G: Gate>(
         Ok(look) => look,
         Err(_) => return Err(QueryError::Memory),
     };
-    gate.pass(client.wrapping_mul(2));
-    let found = search_of_look(alloc, port, &look, asked);
+    gate.pass(2 * client);
+    let found = search_of_look(rt, alloc, port, &look, asked);
     port.done(look);
     found
 }
 
 // What a search finds among the rows of an open look and its blocks.
-fn search_of_look<P: FlushPort>(
+fn search_of_look<R: Threads + Sync, P: FlushPort>(
+    rt: &R,
     alloc: Global,
     port: &mut P,
     look: &Look,
@@ -109,7 +114,7 @@ fn search_of_look<P: FlushPort>(
         Ok(sifter) => sifter,
         Err(Memory) => return Err(QueryError::Memory),
     };
-    match take_rounds(alloc, port, look, &own, asked, &mut sifter, picks) {
+    match take_rounds(rt, alloc, port, look, &own, asked, &mut sifter, picks) {
         Ok(best) => Ok(SearchAnswer {
             as_of: look.as_of,
             results: best.into_results(),

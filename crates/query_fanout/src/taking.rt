@@ -21,10 +21,12 @@ use block_info::BlockInfo;
 use block_read::{Pages, ReadError};
 use block_traces::rows_of_traces;
 use column_scan::Pick;
-use search_answer::{Best, Bounds, answer};
+use search_answer::{Best, Bounds};
 use span_types::{Memory, Row, Rows, TraceId};
 use std::alloc::Global;
+use std::thread::Threads;
 use store_state::{FlushPort, Look};
+use trace_fanout::answer;
 
 // The rows of several traces, whose ids ascend.
 #[derive(Drop)]
@@ -64,7 +66,8 @@ impl<'i> OfBlock for Traces<'i> {
 
 /// Picks are taken: those of late moments first, a few at a time. What is kept are the best of the results so far and
 /// of theirs.
-pub(crate) fn take_picks<P: FlushPort>(
+pub(crate) fn take_picks<R: Threads + Sync, P: FlushPort>(
+    rt: &R,
     alloc: Global,
     port: &mut P,
     look: &Look,
@@ -83,6 +86,7 @@ pub(crate) fn take_picks<P: FlushPort>(
     match two_parts(alloc, picks, asked.limit) {
         Ok((late, early)) => {
             take_parts(
+                rt,
                 alloc,
                 port,
                 look,
@@ -98,7 +102,8 @@ pub(crate) fn take_picks<P: FlushPort>(
 }
 
 // The same of picks in two parts.
-fn take_parts<P: FlushPort>(
+fn take_parts<R: Threads + Sync, P: FlushPort>(
+    rt: &R,
     alloc: Global,
     port: &mut P,
     look: &Look,
@@ -122,11 +127,12 @@ fn take_parts<P: FlushPort>(
         Ok(turns) => turns,
         Err(_) => return Err(QueryError::Memory),
     };
-    take_each(alloc, port, look, own, asked, turns.as_slice(), best)
+    take_each(rt, alloc, port, look, own, asked, turns.as_slice(), best)
 }
 
 // Each few picks in turn are taken.
-fn take_each<P: FlushPort>(
+fn take_each<R: Threads + Sync, P: FlushPort>(
+    rt: &R,
     alloc: Global,
     port: &mut P,
     look: &Look,
@@ -147,7 +153,7 @@ fn take_each<P: FlushPort>(
     takes_more();
     let mut best = best;
     for few in turns {
-        let next = take_few(alloc, port, look, own, asked, few, best)?;
+        let next = take_few(rt, alloc, port, look, own, asked, few, best)?;
         best = next;
     }
     Ok(best)
@@ -155,7 +161,8 @@ fn take_each<P: FlushPort>(
 
 // A few picks are taken: the traces of which a result can still come among the best are answered. If there are none, no
 // block is gone through.
-fn take_few<P: FlushPort>(
+fn take_few<R: Threads + Sync, P: FlushPort>(
+    rt: &R,
     alloc: Global,
     port: &mut P,
     look: &Look,
@@ -177,7 +184,7 @@ fn take_few<P: FlushPort>(
     if ids.is_empty() {
         return Ok(best);
     }
-    answer_traces(alloc, port, look, own, asked, ids.as_slice(), best)
+    answer_traces(rt, alloc, port, look, own, asked, ids.as_slice(), best)
 }
 
 // The traces of the picks of which a result can still come among the best.
@@ -194,7 +201,8 @@ fn open_traces(alloc: Global, few: &[Pick], best: &Best) -> Result<Vec<TraceId>,
 }
 
 // Traces are answered over the rows of an open look and of its blocks. No rows are kept but theirs.
-fn answer_traces<P: FlushPort>(
+fn answer_traces<R: Threads + Sync, P: FlushPort>(
+    rt: &R,
     alloc: Global,
     port: &mut P,
     look: &Look,
@@ -210,7 +218,7 @@ fn answer_traces<P: FlushPort>(
         (AtMost (look_ups ids.now look.now.pin.blocks)) port.old result port.new }
 {
     match of_blocks(alloc, port, look, &Traces(ids)) {
-        Ok(found) => match answer_rows(alloc, own, asked, ids, found, best) {
+        Ok(found) => match answer_rows(rt, alloc, own, asked, ids, found, best) {
             Ok(best) => Ok(best),
             Err(Memory) => Err(QueryError::Memory),
         },
@@ -218,8 +226,9 @@ fn answer_traces<P: FlushPort>(
     }
 }
 
-// Traces are answered over their rows in memory, and those elsewhere.
-fn answer_rows(
+// Traces are answered over their rows in memory, and those elsewhere: in threads, if they are many.
+fn answer_rows<R: Threads + Sync>(
+    rt: &R,
     alloc: Global,
     own: &Own,
     asked: &Asked,
@@ -238,7 +247,7 @@ fn answer_rows(
         spans_per_set: asked.spans_per_set,
     };
     let checked = &asked.checked;
-    let more = answer(alloc, checked, asked.range, bounds, firsts.as_slice())?;
+    let more = answer(rt, alloc, checked, asked.range, bounds, firsts.as_slice())?;
     let kept = best.with(alloc, more)?;
     Ok(kept)
 }

@@ -29,13 +29,23 @@ use session_meaning::Ending;
 use session_text::{Refusal, Reply, write_reply};
 use span_types::{Failed, Memory};
 use std::alloc::Global;
+use std::thread::Threads;
 use store_core::Core;
 use store_files::OpenError;
 use store_reopen::Store;
 use traceql_types::PatternMaker;
 
 /// Does what the words say that ask for one client, and tells how it ended. The disk is handed back.
-pub(crate) fn dispatch<S: Source, K: Sink, D: Device, C: Clock, P: PatternMaker, G: Gate>(
+pub(crate) fn dispatch<
+    R: Threads + Sync,
+    S: Source,
+    K: Sink,
+    D: Device,
+    C: Clock,
+    P: PatternMaker,
+    G: Gate,
+>(
+    rt: &R,
     alloc: Global,
     words: &[String],
     source: &mut S,
@@ -71,14 +81,15 @@ pub(crate) fn dispatch<S: Source, K: Sink, D: Device, C: Clock, P: PatternMaker,
         → source.new ≡ source.old }
 {
     match read_words(alloc, words) {
-        Ok(asked) => on_store(alloc, asked, source, sink, disk, clock, patterns, gate),
+        Ok(asked) => on_store(rt, alloc, asked, source, sink, disk, clock, patterns, gate),
         Err(WordsError::Refused) => (Ending::BadWords, disk),
         Err(WordsError::Memory) => (Ending::Starved, disk),
     }
 }
 
 // Opens the store of the disk, does what is asked, and closes it.
-fn on_store<S: Source, K: Sink, D: Device, C: Clock, P: PatternMaker, G: Gate>(
+fn on_store<R: Threads + Sync, S: Source, K: Sink, D: Device, C: Clock, P: PatternMaker, G: Gate>(
+    rt: &R,
     alloc: Global,
     asked: Asked,
     source: &mut S,
@@ -111,7 +122,9 @@ fn on_store<S: Source, K: Sink, D: Device, C: Clock, P: PatternMaker, G: Gate>(
     let moment = clock.now();
     match Core::open_store(alloc, disk, moment) {
         Ok(core) => {
-            let (ending, store) = do_asked(alloc, asked, source, sink, core, clock, patterns, gate);
+            let (ending, store) = do_asked(
+                rt, alloc, asked, source, sink, core, clock, patterns, gate,
+            );
             (ending, store.into_disk())
         }
         Err((error, disk)) => (refuse_store(alloc, sink, error), disk),
@@ -119,7 +132,8 @@ fn on_store<S: Source, K: Sink, D: Device, C: Clock, P: PatternMaker, G: Gate>(
 }
 
 // Does what is asked over a core that was opened. A session may close it; the others don't.
-fn do_asked<S: Source, K: Sink, D: Device, C: Clock, P: PatternMaker, G: Gate>(
+fn do_asked<R: Threads + Sync, S: Source, K: Sink, D: Device, C: Clock, P: PatternMaker, G: Gate>(
+    rt: &R,
     alloc: Global,
     asked: Asked,
     source: &mut S,
@@ -145,6 +159,7 @@ fn do_asked<S: Source, K: Sink, D: Device, C: Clock, P: PatternMaker, G: Gate>(
 {
     match asked {
         Asked::Session => session(
+            rt,
             alloc,
             source,
             sink,
@@ -156,17 +171,20 @@ fn do_asked<S: Source, K: Sink, D: Device, C: Clock, P: PatternMaker, G: Gate>(
         Asked::Serve { .. } => unreachable!(),
         Asked::Ingest => {
             let mut core = core;
-            let ending = ingest(alloc, source, sink, &mut core, clock, gate);
+            let ending = ingest(rt, alloc, source, sink, &mut core, clock, gate);
             (ending, Store::Open(core))
         }
         Asked::Drill { seed, traces } => {
             let mut core = core;
-            let ending = drill(alloc, sink, &mut core, clock, patterns, gate, seed, traces);
+            let ending = drill(
+                rt, alloc, sink, &mut core, clock, patterns, gate, seed, traces,
+            );
             (ending, Store::Open(core))
         }
         Asked::Alone { line } => {
             let mut core = core;
             let ending = one_line(
+                rt,
                 alloc,
                 sink,
                 &mut core,

@@ -33,6 +33,7 @@ use session_meaning::Ending;
 use session_text::{Reply, Request, write_reply};
 use span_types::{Failed, Memory, Text};
 use std::alloc::{AllocError, Global};
+use std::thread::Threads;
 use store_core::Core;
 use traceql_types::PatternMaker;
 
@@ -156,7 +157,8 @@ pub(crate) struct Found {
 /// Pushes the lines of this seed, so many, to a core, keeps the store up and searches it, and writes the counts of all
 /// replies and the replies to the searches. Nothing is written before all is asked. The clock is asked once for each
 /// line that is pushed and for each search.
-pub(crate) fn drill<K: Sink, D: Device, C: Clock, P: PatternMaker, G: Gate>(
+pub(crate) fn drill<R: Threads + Sync, K: Sink, D: Device, C: Clock, P: PatternMaker, G: Gate>(
+    rt: &R,
     alloc: Global,
     sink: &mut K,
     core: &mut Core<D>,
@@ -177,17 +179,18 @@ pub(crate) fn drill<K: Sink, D: Device, C: Clock, P: PatternMaker, G: Gate>(
         ⊎ ((result ≡ Answered) ⊎ ((result ≡ Refused) ⊎ (result ≡ Starved))) }
 {
     let mut counts = Counts::new();
-    let Ok(()) = push_all(alloc, &mut counts, core, clock, gate, seed, traces) else {
+    let Ok(()) = push_all(rt, alloc, &mut counts, core, clock, gate, seed, traces) else {
         return Ending::Starved;
     };
-    compact_all(alloc, &mut counts, core, gate);
-    let _emptied = ask(alloc, &mut counts, core, gate, Request::Reclaim);
-    let found = search_all(alloc, &mut counts, core, clock, patterns, gate);
+    compact_all(rt, alloc, &mut counts, core, gate);
+    let _emptied = ask(rt, alloc, &mut counts, core, gate, Request::Reclaim);
+    let found = search_all(rt, alloc, &mut counts, core, clock, patterns, gate);
     tell(alloc, sink, counts, &found)
 }
 
 // Pushes all lines, with the upkeep that is due after each. It stops where memory runs out for a line.
-fn push_all<D: Device, C: Clock, G: Gate>(
+fn push_all<R: Threads + Sync, D: Device, C: Clock, G: Gate>(
+    rt: &R,
     alloc: Global,
     counts: &mut Counts,
     core: &mut Core<D>,
@@ -205,13 +208,14 @@ fn push_all<D: Device, C: Clock, G: Gate>(
         × LinesMade seed traces 0 count (C.moments clock.old) items (C.moments clock.new)) }
 {
     for index in 0..traces {
-        push_made(alloc, counts, core, clock, gate, seed, traces, index)?;
+        push_made(rt, alloc, counts, core, clock, gate, seed, traces, index)?;
     }
     Ok(())
 }
 
 // Pushes one line, and cuts and flushes all rows where that is due. Nothing is asked where memory runs out for the line.
-fn push_made<D: Device, C: Clock, G: Gate>(
+fn push_made<R: Threads + Sync, D: Device, C: Clock, G: Gate>(
+    rt: &R,
     alloc: Global,
     counts: &mut Counts,
     core: &mut Core<D>,
@@ -231,14 +235,15 @@ fn push_made<D: Device, C: Clock, G: Gate>(
 {
     let line = make_line(alloc, seed, index)?;
     let moment = clock.now();
-    let reply = push(alloc, core, gate, line.as_str().as_bytes(), moment);
+    let reply = push(rt, alloc, core, gate, line.as_str().as_bytes(), moment);
     counts.add(&reply);
-    settle(alloc, counts, core, gate, traces, index);
+    settle(rt, alloc, counts, core, gate, traces, index);
     Ok(())
 }
 
 // Cuts and flushes all rows, where that is due after a line.
-fn settle<D: Device, G: Gate>(
+fn settle<R: Threads + Sync, D: Device, G: Gate>(
+    rt: &R,
     alloc: Global,
     counts: &mut Counts,
     core: &mut Core<D>,
@@ -254,8 +259,8 @@ fn settle<D: Device, G: Gate>(
     if !is_due(traces, index) {
         return;
     }
-    let _cut = ask(alloc, counts, core, gate, Request::CutAll);
-    let _flushed = ask(alloc, counts, core, gate, Request::Flush);
+    let _cut = ask(rt, alloc, counts, core, gate, Request::CutAll);
+    let _flushed = ask(rt, alloc, counts, core, gate, Request::Flush);
 }
 
 // Whether all rows are cut and flushed after the line with this index.
@@ -267,7 +272,13 @@ fn is_due(traces: u32, index: u32) -> bool
 }
 
 // Compacts as long as blocks are joined.
-fn compact_all<D: Device, G: Gate>(alloc: Global, counts: &mut Counts, core: &mut Core<D>, gate: &G)
+fn compact_all<R: Threads + Sync, D: Device, G: Gate>(
+    rt: &R,
+    alloc: Global,
+    counts: &mut Counts,
+    core: &mut Core<D>,
+    gate: &G,
+)
     requires { (held : List Hold) × (port_of D.Device.own).holds core.old held }
     ensures { (compactions : List Item) × (joined : List Reply) × (last : Reply)
         × HasMade D.Device.own core.old core.new counts.old counts.new
@@ -275,17 +286,18 @@ fn compact_all<D: Device, G: Gate>(alloc: Global, counts: &mut Counts, core: &mu
         × AreJoined compactions joined × (length joined ≡ length compactions)
         × ((is_joined last ≡ false) ⊎ (length compactions ≡ 4294967294)) }
 {
-    let mut joins = compact_once(alloc, counts, core, gate);
+    let mut joins = compact_once(rt, alloc, counts, core, gate);
     'rounds: for _ in 1..MOST_ROUNDS {
         if !joins {
             return;
         }
-        joins = compact_once(alloc, counts, core, gate);
+        joins = compact_once(rt, alloc, counts, core, gate);
     }
 }
 
 // Compacts once, and tells whether blocks were joined.
-fn compact_once<D: Device, G: Gate>(
+fn compact_once<R: Threads + Sync, D: Device, G: Gate>(
+    rt: &R,
     alloc: Global,
     counts: &mut Counts,
     core: &mut Core<D>,
@@ -296,12 +308,13 @@ fn compact_once<D: Device, G: Gate>(
         × HasMade D.Device.own core.old core.new counts.old counts.new (Ok AsksCompact ∷ [])
         (reply ∷ []) }
 {
-    let reply = ask(alloc, counts, core, gate, Request::Compact);
+    let reply = ask(rt, alloc, counts, core, gate, Request::Compact);
     is_joined(&reply)
 }
 
 // Asks this of the core, and counts the reply.
-fn ask<D: Device, G: Gate>(
+fn ask<R: Threads + Sync, D: Device, G: Gate>(
+    rt: &R,
     alloc: Global,
     counts: &mut Counts,
     core: &mut Core<D>,
@@ -312,13 +325,14 @@ fn ask<D: Device, G: Gate>(
     ensures { HasMade D.Device.own core.old core.new counts.old counts.new (Ok request ∷ [])
         (result ∷ []) }
 {
-    let reply = answer_request(alloc, core, request, CLIENT, gate);
+    let reply = answer_request(rt, alloc, core, request, CLIENT, gate);
     counts.add(&reply);
     reply
 }
 
 // Asks the three searches.
-fn search_all<D: Device, C: Clock, P: PatternMaker, G: Gate>(
+fn search_all<R: Threads + Sync, D: Device, C: Clock, P: PatternMaker, G: Gate>(
+    rt: &R,
     alloc: Global,
     counts: &mut Counts,
     core: &mut Core<D>,
@@ -335,6 +349,7 @@ fn search_all<D: Device, C: Clock, P: PatternMaker, G: Gate>(
         × (C.moments clock.new ≡ after_lines drill_searches (C.moments clock.old)) }
 {
     let errors = search(
+        rt,
         alloc,
         counts,
         core,
@@ -344,6 +359,7 @@ fn search_all<D: Device, C: Clock, P: PatternMaker, G: Gate>(
         b"search { status = error }",
     );
     let large = search(
+        rt,
         alloc,
         counts,
         core,
@@ -353,6 +369,7 @@ fn search_all<D: Device, C: Clock, P: PatternMaker, G: Gate>(
         b"search { } | count() > 4",
     );
     let crossing = search(
+        rt,
         alloc,
         counts,
         core,
@@ -369,7 +386,8 @@ fn search_all<D: Device, C: Clock, P: PatternMaker, G: Gate>(
 }
 
 // Asks one line, and counts the reply.
-fn search<D: Device, C: Clock, P: PatternMaker, G: Gate>(
+fn search<R: Threads + Sync, D: Device, C: Clock, P: PatternMaker, G: Gate>(
+    rt: &R,
     alloc: Global,
     counts: &mut Counts,
     core: &mut Core<D>,
@@ -387,7 +405,7 @@ fn search<D: Device, C: Clock, P: PatternMaker, G: Gate>(
     ensures clock { C.moments clock.new ≡ after_moment (C.moments clock.old) }
 {
     let moment = clock.now();
-    let reply = answer(alloc, core, patterns, gate, line, moment);
+    let reply = answer(rt, alloc, core, patterns, gate, line, moment);
     counts.add(&reply);
     reply
 }

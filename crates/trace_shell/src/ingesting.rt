@@ -28,6 +28,7 @@ use io_edges::{Clock, Gate, Line, LineError, LineReader, Sink, Source};
 use session_meaning::Ending;
 use session_text::{Refusal, Reply, Request, read_push};
 use std::alloc::Global;
+use std::thread::Threads;
 use store_core::Core;
 
 /// So many rows outside of blocks are many: half of what a store holds. They are flushed before the next line is read.
@@ -50,7 +51,8 @@ pub(crate) enum After {
 /// flushed where 131,072 rows or more are held outside of blocks; and at the end all are, blocks are compacted as long
 /// as any are joined, and loose files are emptied. Each reply is written before anything else is asked or read. The
 /// clock is asked once for each line that has bytes.
-pub(crate) fn ingest<S: Source, K: Sink, D: Device, C: Clock, G: Gate>(
+pub(crate) fn ingest<R: Threads + Sync, S: Source, K: Sink, D: Device, C: Clock, G: Gate>(
+    rt: &R,
     alloc: Global,
     source: &mut S,
     sink: &mut K,
@@ -73,18 +75,19 @@ pub(crate) fn ingest<S: Source, K: Sink, D: Device, C: Clock, G: Gate>(
     ensures endings { IsPastOpening result }
 {
     let mut tally = Tally::new();
-    if let Some(ending) = keep_small(alloc, &mut tally, sink, core, gate) {
+    if let Some(ending) = keep_small(rt, alloc, &mut tally, sink, core, gate) {
         return ending;
     }
-    match push_all(alloc, source, &mut tally, sink, core, clock, gate) {
+    match push_all(rt, alloc, source, &mut tally, sink, core, clock, gate) {
         Some(early) => early,
-        None => finish(alloc, &mut tally, sink, core, gate),
+        None => finish(rt, alloc, &mut tally, sink, core, gate),
     }
 }
 
 // Pushes all lines of the source, and keeps the store small after each. Gives how the run ends, where it ends before
 // they are all pushed.
-fn push_all<S: Source, K: Sink, D: Device, C: Clock, G: Gate>(
+fn push_all<R: Threads + Sync, S: Source, K: Sink, D: Device, C: Clock, G: Gate>(
+    rt: &R,
     alloc: Global,
     source: &mut S,
     tally: &mut Tally,
@@ -117,7 +120,17 @@ fn push_all<S: Source, K: Sink, D: Device, C: Clock, G: Gate>(
 {
     let mut reader = LineReader::new(alloc);
     'lines: loop {
-        match push_next(alloc, &mut reader, source, tally, sink, core, clock, gate) {
+        match push_next(
+            rt,
+            alloc,
+            &mut reader,
+            source,
+            tally,
+            sink,
+            core,
+            clock,
+            gate,
+        ) {
             After::Line => {}
             After::End => return None,
             After::Ending(ending) => return Some(ending),
@@ -126,7 +139,8 @@ fn push_all<S: Source, K: Sink, D: Device, C: Clock, G: Gate>(
 }
 
 // Reads the next line, pushes it and keeps the store small.
-fn push_next<S: Source, K: Sink, D: Device, C: Clock, G: Gate>(
+fn push_next<R: Threads + Sync, S: Source, K: Sink, D: Device, C: Clock, G: Gate>(
+    rt: &R,
     alloc: Global,
     reader: &mut LineReader,
     source: &mut S,
@@ -172,10 +186,10 @@ fn push_next<S: Source, K: Sink, D: Device, C: Clock, G: Gate>(
     };
     match line {
         Line::Whole(bytes) => {
-            go_on(push_line(alloc, tally, sink, core, clock, gate, bytes.as_slice()))
+            go_on(push_line(rt, alloc, tally, sink, core, clock, gate, bytes.as_slice()))
         }
         Line::TooLong { length } => go_on(refuse_long(
-            alloc, tally, sink, core, clock, gate, length,
+            rt, alloc, tally, sink, core, clock, gate, length,
         )),
         Line::End => After::End,
         Line::Spent { .. } => After::Ending(Ending::Spent),
@@ -195,7 +209,8 @@ fn go_on(ended: Option<Ending>) -> After
 
 // Pushes a line, writes the reply and keeps the store small. A line without bytes gets no reply, and nothing is done
 // for it.
-fn push_line<K: Sink, D: Device, C: Clock, G: Gate>(
+fn push_line<R: Threads + Sync, K: Sink, D: Device, C: Clock, G: Gate>(
+    rt: &R,
     alloc: Global,
     tally: &mut Tally,
     sink: &mut K,
@@ -222,12 +237,13 @@ fn push_line<K: Sink, D: Device, C: Clock, G: Gate>(
         return None;
     }
     let moment = clock.now();
-    let reply = push(alloc, core, gate, line, moment);
-    end_line(alloc, tally, sink, core, gate, &reply)
+    let reply = push(rt, alloc, core, gate, line, moment);
+    end_line(rt, alloc, tally, sink, core, gate, &reply)
 }
 
 // Pushes what a line holds that was read at this moment, in nanoseconds.
-pub(crate) fn push<D: Device, G: Gate>(
+pub(crate) fn push<R: Threads + Sync, D: Device, G: Gate>(
+    rt: &R,
     alloc: Global,
     core: &mut Core<D>,
     gate: &G,
@@ -240,13 +256,14 @@ pub(crate) fn push<D: Device, G: Gate>(
         result core.new }
 {
     match read_push(alloc, line, moment) {
-        Ok(request) => answer_request(alloc, core, request, CLIENT, gate),
+        Ok(request) => answer_request(rt, alloc, core, request, CLIENT, gate),
         Err(why) => Reply::Refused(why),
     }
 }
 
 // Refuses a line of so many bytes, which are too many, writes the reply and keeps the store small.
-fn refuse_long<K: Sink, D: Device, C: Clock, G: Gate>(
+fn refuse_long<R: Threads + Sync, K: Sink, D: Device, C: Clock, G: Gate>(
+    rt: &R,
     alloc: Global,
     tally: &mut Tally,
     sink: &mut K,
@@ -272,11 +289,12 @@ fn refuse_long<K: Sink, D: Device, C: Clock, G: Gate>(
     // A line that is refused unread takes a moment of the clock like any other.
     let _moment = clock.now();
     let reply = Reply::Refused(Refusal::TooLong { length });
-    end_line(alloc, tally, sink, core, gate, &reply)
+    end_line(rt, alloc, tally, sink, core, gate, &reply)
 }
 
 // Writes the reply to a line, and keeps the store small.
-fn end_line<K: Sink, D: Device, G: Gate>(
+fn end_line<R: Threads + Sync, K: Sink, D: Device, G: Gate>(
+    rt: &R,
     alloc: Global,
     tally: &mut Tally,
     sink: &mut K,
@@ -298,12 +316,13 @@ fn end_line<K: Sink, D: Device, G: Gate>(
 {
     match write(alloc, tally, sink, reply) {
         Some(ending) => Some(ending),
-        None => keep_small(alloc, tally, sink, core, gate),
+        None => keep_small(rt, alloc, tally, sink, core, gate),
     }
 }
 
 // Cuts and flushes all rows where many are held.
-fn keep_small<K: Sink, D: Device, G: Gate>(
+fn keep_small<R: Threads + Sync, K: Sink, D: Device, G: Gate>(
+    rt: &R,
     alloc: Global,
     tally: &mut Tally,
     sink: &mut K,
@@ -325,11 +344,12 @@ fn keep_small<K: Sink, D: Device, G: Gate>(
     if core.held_now() < MANY_ROWS {
         return None;
     }
-    cut_and_flush(alloc, tally, sink, core, gate)
+    cut_and_flush(rt, alloc, tally, sink, core, gate)
 }
 
 // Moves all rows to the head, and makes a block of them.
-fn cut_and_flush<K: Sink, D: Device, G: Gate>(
+fn cut_and_flush<R: Threads + Sync, K: Sink, D: Device, G: Gate>(
+    rt: &R,
     alloc: Global,
     tally: &mut Tally,
     sink: &mut K,
@@ -348,14 +368,15 @@ fn cut_and_flush<K: Sink, D: Device, G: Gate>(
         → Rose (K.faults sink.old) (K.faults sink.new)) }
     ensures endings { IfSome result (λ ending. (ending ≡ WriteFault) ⊎ (ending ≡ Starved)) }
 {
-    match ask(alloc, tally, sink, core, gate, Request::CutAll) {
+    match ask(rt, alloc, tally, sink, core, gate, Request::CutAll) {
         Some(ending) => Some(ending),
-        None => ask(alloc, tally, sink, core, gate, Request::Flush),
+        None => ask(rt, alloc, tally, sink, core, gate, Request::Flush),
     }
 }
 
 // What is done at the end of the source. Gives how the run ends.
-fn finish<K: Sink, D: Device, G: Gate>(
+fn finish<R: Threads + Sync, K: Sink, D: Device, G: Gate>(
+    rt: &R,
     alloc: Global,
     tally: &mut Tally,
     sink: &mut K,
@@ -375,14 +396,15 @@ fn finish<K: Sink, D: Device, G: Gate>(
     ensures endings { (result ≡ WriteFault)
         ⊎ ((result ≡ Answered) ⊎ ((result ≡ Refused) ⊎ (result ≡ Starved))) }
 {
-    match keep_up(alloc, tally, sink, core, gate) {
+    match keep_up(rt, alloc, tally, sink, core, gate) {
         Some(ending) => ending,
         None => tally.ending(),
     }
 }
 
 // Cuts and flushes all rows, joins blocks, and empties loose files.
-fn keep_up<K: Sink, D: Device, G: Gate>(
+fn keep_up<R: Threads + Sync, K: Sink, D: Device, G: Gate>(
+    rt: &R,
     alloc: Global,
     tally: &mut Tally,
     sink: &mut K,
@@ -402,14 +424,15 @@ fn keep_up<K: Sink, D: Device, G: Gate>(
         → Rose (K.faults sink.old) (K.faults sink.new)) }
     ensures endings { IfSome result (λ ending. (ending ≡ WriteFault) ⊎ (ending ≡ Starved)) }
 {
-    match cut_and_flush(alloc, tally, sink, core, gate) {
+    match cut_and_flush(rt, alloc, tally, sink, core, gate) {
         Some(ending) => Some(ending),
-        None => compact_and_reclaim(alloc, tally, sink, core, gate),
+        None => compact_and_reclaim(rt, alloc, tally, sink, core, gate),
     }
 }
 
 // Joins blocks, and empties loose files.
-fn compact_and_reclaim<K: Sink, D: Device, G: Gate>(
+fn compact_and_reclaim<R: Threads + Sync, K: Sink, D: Device, G: Gate>(
+    rt: &R,
     alloc: Global,
     tally: &mut Tally,
     sink: &mut K,
@@ -428,14 +451,15 @@ fn compact_and_reclaim<K: Sink, D: Device, G: Gate>(
         → Rose (K.faults sink.old) (K.faults sink.new)) }
     ensures endings { IfSome result (λ ending. (ending ≡ WriteFault) ⊎ (ending ≡ Starved)) }
 {
-    match compact_all(alloc, tally, sink, core, gate) {
+    match compact_all(rt, alloc, tally, sink, core, gate) {
         Some(ending) => Some(ending),
-        None => ask(alloc, tally, sink, core, gate, Request::Reclaim),
+        None => ask(rt, alloc, tally, sink, core, gate, Request::Reclaim),
     }
 }
 
 // Compacts as long as blocks are joined.
-fn compact_all<K: Sink, D: Device, G: Gate>(
+fn compact_all<R: Threads + Sync, K: Sink, D: Device, G: Gate>(
+    rt: &R,
     alloc: Global,
     tally: &mut Tally,
     sink: &mut K,
@@ -457,7 +481,7 @@ fn compact_all<K: Sink, D: Device, G: Gate>(
     ensures endings { IfSome result (λ ending. (ending ≡ WriteFault) ⊎ (ending ≡ Starved)) }
 {
     'rounds: for _ in 0..MOST_ROUNDS {
-        match compact_once(alloc, tally, sink, core, gate) {
+        match compact_once(rt, alloc, tally, sink, core, gate) {
             Ok(true) => {}
             Ok(false) => return None,
             Err(ending) => return Some(ending),
@@ -467,7 +491,8 @@ fn compact_all<K: Sink, D: Device, G: Gate>(
 }
 
 // Compacts once and writes the reply. Gives whether blocks were joined, or how the run ends.
-fn compact_once<K: Sink, D: Device, G: Gate>(
+fn compact_once<R: Threads + Sync, K: Sink, D: Device, G: Gate>(
+    rt: &R,
     alloc: Global,
     tally: &mut Tally,
     sink: &mut K,
@@ -490,7 +515,7 @@ fn compact_once<K: Sink, D: Device, G: Gate>(
         → Rose (K.faults sink.old) (K.faults sink.new)) }
     ensures endings { IfErr result (λ ending. (ending ≡ WriteFault) ⊎ (ending ≡ Starved)) }
 {
-    let reply = answer_request(alloc, core, Request::Compact, CLIENT, gate);
+    let reply = answer_request(rt, alloc, core, Request::Compact, CLIENT, gate);
     match write(alloc, tally, sink, &reply) {
         Some(ending) => Err(ending),
         None => Ok(is_joined(&reply)),
@@ -505,7 +530,8 @@ pub(crate) fn is_joined(reply: &Reply) -> bool
 }
 
 // Asks this of the core and writes the reply.
-fn ask<K: Sink, D: Device, G: Gate>(
+fn ask<R: Threads + Sync, K: Sink, D: Device, G: Gate>(
+    rt: &R,
     alloc: Global,
     tally: &mut Tally,
     sink: &mut K,
@@ -525,6 +551,6 @@ fn ask<K: Sink, D: Device, G: Gate>(
         → Rose (K.faults sink.old) (K.faults sink.new)) }
     ensures endings { IfSome result (λ ending. (ending ≡ WriteFault) ⊎ (ending ≡ Starved)) }
 {
-    let reply = answer_request(alloc, core, request, CLIENT, gate);
+    let reply = answer_request(rt, alloc, core, request, CLIENT, gate);
     write(alloc, tally, sink, &reply)
 }

@@ -28,6 +28,7 @@ use session_meaning::Ending;
 use session_text::{Refusal, Reply, is_reopen, read_request, write_reply};
 use span_types::{Failed, Memory};
 use std::alloc::Global;
+use std::thread::Threads;
 use store_files::OpenError;
 use store_reopen::Store;
 use store_state::{Port, Refusal as Cause};
@@ -104,7 +105,16 @@ pub(crate) fn is_for_memory(reply: &Reply) -> bool
 /// Answers the lines of the source in order over a store, and writes each reply before it reads the next line. The
 /// clock is asked once for each line that has bytes. The line `reopen` closes the store and opens it again; while it is
 /// closed no other line is read. The store is handed back, open or closed.
-pub(crate) fn session<S: Source, K: Sink, D: Device, C: Clock, P: PatternMaker, G: Gate>(
+pub(crate) fn session<
+    R: Threads + Sync,
+    S: Source,
+    K: Sink,
+    D: Device,
+    C: Clock,
+    P: PatternMaker,
+    G: Gate,
+>(
+    rt: &R,
     alloc: Global,
     source: &mut S,
     sink: &mut K,
@@ -132,6 +142,7 @@ pub(crate) fn session<S: Source, K: Sink, D: Device, C: Clock, P: PatternMaker, 
     let mut store = store;
     'lines: loop {
         let (ended, later) = next_line(
+            rt,
             alloc,
             &mut reader,
             source,
@@ -150,7 +161,8 @@ pub(crate) fn session<S: Source, K: Sink, D: Device, C: Clock, P: PatternMaker, 
 }
 
 /// Answers one line over a store's port, and nothing else. The clock is asked once.
-pub(crate) fn one_line<K: Sink, Q: Port, C: Clock, P: PatternMaker, G: Gate>(
+pub(crate) fn one_line<R: Threads + Sync, K: Sink, Q: Port, C: Clock, P: PatternMaker, G: Gate>(
+    rt: &R,
     alloc: Global,
     sink: &mut K,
     port: &mut Q,
@@ -173,7 +185,7 @@ pub(crate) fn one_line<K: Sink, Q: Port, C: Clock, P: PatternMaker, G: Gate>(
 {
     let mut tally = Tally::new();
     let moment = clock.now();
-    let reply = answer(alloc, port, patterns, gate, line, moment);
+    let reply = answer(rt, alloc, port, patterns, gate, line, moment);
     match write(alloc, &mut tally, sink, &reply) {
         Some(ending) => ending,
         None => tally.ending(),
@@ -181,7 +193,8 @@ pub(crate) fn one_line<K: Sink, Q: Port, C: Clock, P: PatternMaker, G: Gate>(
 }
 
 // Reads the next line, answers it and writes the reply. Gives how the session ends, where it does.
-fn next_line<S: Source, K: Sink, D: Device, C: Clock, P: PatternMaker, G: Gate>(
+fn next_line<R: Threads + Sync, S: Source, K: Sink, D: Device, C: Clock, P: PatternMaker, G: Gate>(
+    rt: &R,
     alloc: Global,
     reader: &mut LineReader,
     source: &mut S,
@@ -224,6 +237,7 @@ fn next_line<S: Source, K: Sink, D: Device, C: Clock, P: PatternMaker, G: Gate>(
     };
     match line {
         Line::Whole(bytes) => answer_line(
+            rt,
             alloc,
             tally,
             sink,
@@ -243,7 +257,8 @@ fn next_line<S: Source, K: Sink, D: Device, C: Clock, P: PatternMaker, G: Gate>(
 }
 
 // Answers a line and writes the reply. A line without bytes gets none, and the clock isn't asked for it.
-fn answer_line<K: Sink, D: Device, C: Clock, P: PatternMaker, G: Gate>(
+fn answer_line<R: Threads + Sync, K: Sink, D: Device, C: Clock, P: PatternMaker, G: Gate>(
+    rt: &R,
     alloc: Global,
     tally: &mut Tally,
     sink: &mut K,
@@ -273,13 +288,14 @@ fn answer_line<K: Sink, D: Device, C: Clock, P: PatternMaker, G: Gate>(
         return (None, store);
     }
     let moment = clock.now();
-    let (reply, store) = act_on(alloc, store, patterns, gate, line, moment);
+    let (reply, store) = act_on(rt, alloc, store, patterns, gate, line, moment);
     let ended = write(alloc, tally, sink, &reply);
     (ended, store)
 }
 
 // Does what a line says that was read at this moment, in nanoseconds.
-fn act_on<D: Device, P: PatternMaker, G: Gate>(
+fn act_on<R: Threads + Sync, D: Device, P: PatternMaker, G: Gate>(
+    rt: &R,
     alloc: Global,
     store: Store<D>,
     patterns: &mut P,
@@ -299,7 +315,7 @@ fn act_on<D: Device, P: PatternMaker, G: Gate>(
     match store {
         Store::Open(core) => {
             let mut core = core;
-            let reply = answer(alloc, &mut core, patterns, gate, line, moment);
+            let reply = answer(rt, alloc, &mut core, patterns, gate, line, moment);
             (reply, Store::Open(core))
         }
         Store::Closed(disk) => (Reply::Refused(Refusal::Closed), Store::Closed(disk)),
@@ -364,7 +380,8 @@ fn refused_long<D: Device>(store: &Store<D>, length: u64) -> Reply
 }
 
 // Answers a line that was read at this moment, in nanoseconds.
-pub(crate) fn answer<Q: Port, P: PatternMaker, G: Gate>(
+pub(crate) fn answer<R: Threads + Sync, Q: Port, P: PatternMaker, G: Gate>(
+    rt: &R,
     alloc: Global,
     port: &mut Q,
     patterns: &mut P,
@@ -379,7 +396,7 @@ pub(crate) fn answer<Q: Port, P: PatternMaker, G: Gate>(
         × HasAnsweredOne Q.meaning port.old item result port.new }
 {
     match read_request(alloc, line, moment, patterns) {
-        Ok(request) => answer_request(alloc, port, request, CLIENT, gate),
+        Ok(request) => answer_request(rt, alloc, port, request, CLIENT, gate),
         Err(why) => Reply::Refused(why),
     }
 }

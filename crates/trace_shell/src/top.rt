@@ -62,7 +62,7 @@ pub fn run_alone<
     P: PatternMaker,
     G: Gate,
 >(
-    _rt: &R,
+    rt: &R,
     alloc: Global,
     words: &[String],
     source: &mut S,
@@ -109,7 +109,7 @@ pub fn run_alone<
     ensures alone { (c : Command) → TakesNothing c → Spells (map string_bytes words.now) c
         → source.new ≡ source.old }
 {
-    let (ending, disk) = dispatch(alloc, words, source, sink, disk, clock, patterns, gate);
+    let (ending, disk) = dispatch(rt, alloc, words, source, sink, disk, clock, patterns, gate);
     Ended {
         status: ending.status(),
         disk,

@@ -13,10 +13,10 @@ pub loop-at-init : goal.loop-at-init
 loop-at-init g c = (c.requires.sieve, λ seen of. begun g.P.LookPort.meaning c.args.look.now seen c.args.own.now c.args.asked.now c.args.picks.items c.in-Ok.rounds c.args.port.now c.requires.open of c.in-Ok.ensures)
 
 pub one_round-requires-clause-open : goal.one_round-requires-clause-open
-one_round-requires-clause-open g c = (c.loop-at.invariant.1 c.requires.picks.0 c.requires.picks.1).reads.pages.stays.is_open
+one_round-requires-clause-open g c κs within = (c.loop-at.invariant.1 c.requires.picks.0 c.requires.picks.1).reads.pages.stays.is_open
 
 pub one_round-requires-clause-well : goal.one_round-requires-clause-well
-one_round-requires-clause-well g c = (c.loop-at.invariant.1 c.requires.picks.0 c.requires.picks.1).well
+one_round-requires-clause-well g c κs within = (c.loop-at.invariant.1 c.requires.picks.0 c.requires.picks.1).well
 
 pub loop-at-preserved : goal.loop-at-preserved
 loop-at-preserved g c = (c.one_round.ensures.sifter ∙ c.loop-at.invariant.0, λ seen of. c.in_ok-next.ensures.goes seen c.args.port.now (c.loop-at.invariant.1 seen of))
@@ -28,10 +28,10 @@ returns-in_err-next g c = λ seen of.
     (c.in_err-next.ensures.goes seen c.args.port.now (c.loop-at.invariant.1 seen of)))
 
 pub take_gone-requires-clause-open : goal.take_gone-requires-clause-open
-take_gone-requires-clause-open g c = (c.loop-at.invariant.1 c.requires.picks.0 c.requires.picks.1).reads.pages.stays.is_open
+take_gone-requires-clause-open g c κs within = (c.loop-at.invariant.1 c.requires.picks.0 c.requires.picks.1).reads.pages.stays.is_open
 
 pub take_gone-requires-clause-well : goal.take_gone-requires-clause-well
-take_gone-requires-clause-well g c = (c.loop-at.invariant.1 c.requires.picks.0 c.requires.picks.1).well
+take_gone-requires-clause-well g c κs within = (c.loop-at.invariant.1 c.requires.picks.0 c.requires.picks.1).well
 
 pub returns-in_err-all : goal.returns-in_err-all
 returns-in_err-all g c = λ seen of.

@@ -16,8 +16,8 @@ returns-in-Err-clause-bounded g c = λ told kept keeps.
     subst (λ (n : ℕ). SearchReads hint kept.outside kept.infos kept.parts before n) (sym (not_read g.P.LookPort.meaning c.args.port.now c.look.new.self c.in-Err.ensures.called))
     (none_within hint kept.outside kept.infos kept.parts before)
 
-pub search_of_look-found-requires : goal.search_of_look-found-requires
-search_of_look-found-requires g c = is_open g.P.LookPort.meaning c.args.port.now c.look.new.self c.in-Ok.look c.in-Ok.ensures.called c.requires
+pub search_of_look-found-requires-after_bounds : goal.search_of_look-found-requires-after_bounds
+search_of_look-found-requires-after_bounds g c κs within = is_open g.P.LookPort.meaning c.args.port.now c.look.new.self c.in-Ok.look c.in-Ok.ensures.called c.requires.holds
 
 pub done-requires : goal.done-requires
 done-requires g c = c.search_of_look-found.ensures.pages.stays.is_open
@@ -25,7 +25,7 @@ done-requires g c = c.search_of_look-found.ensures.pages.stays.is_open
 pub returns-clause-asked : goal.returns-clause-asked
 returns-clause-asked g c =
     has_asked g.P.LookPort.meaning c.args.port.now (IsSearchAnswer c.args.asked.now) c.look.new.self c.search_of_look-found.new.port c.done.new.self c.in-Ok.look c.search_of_look-found.result
-    (search_tells_firsts c.args.asked.now) c.in-Ok.ensures.called c.in-Ok.ensures.shows c.search_of_look-found.ensures c.done.ensures.called c.requires c.in-Ok.ensures.whole
+    (search_tells_firsts c.args.asked.now) c.in-Ok.ensures.called c.in-Ok.ensures.shows c.search_of_look-found.ensures c.done.ensures.called c.requires.holds c.in-Ok.ensures.whole
 
 pub returns-clause-bounded : goal.returns-clause-bounded
 returns-clause-bounded g c = λ told kept keeps.

@@ -16,7 +16,7 @@ pub returns-in-Err-of-2 : goal.returns-in-Err-of-2
 returns-in-Err-of-2 g c = not_searched g.P.LookPort.meaning c.args.look.now c.args.asked.now c.args.port.now c.requires
 
 pub take_rounds-requires-clause-picks : goal.take_rounds-requires-clause-picks
-take_rounds-requires-clause-picks g c = (
+take_rounds-requires-clause-picks g c κs within = (
   c.args.look.now.rows,
   picks_are c.args.asked.now c.in-Ok.sieve c.as_slice.result.now c.in-Ok-of.own c.args.look.now.rows c.in-Ok-picks_of_rows.picks.items c.in-Ok.ensures c.as_slice.ensures c.in-Ok-of.ensures
       c.in-Ok-picks_of_rows.ensures,

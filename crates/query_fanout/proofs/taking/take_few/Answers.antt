@@ -27,7 +27,7 @@ returns-then-is_empty g c =
     (sym c.in-Ok.ensures ∙ no_ids c.in-Ok.ids (sym c.is_empty.ensures ∙ c.if-is_empty.true)) (subst IsKept c.best.view_is c.best.invariant)
 
 pub answer_traces-requires-clause-in_order : goal.answer_traces-requires-clause-in_order
-answer_traces-requires-clause-in_order g c = opened_ascend c.args.best c.args.few.now c.as_slice.result.now (c.as_slice.ensures.value ∙ c.in-Ok.ensures) c.requires.ascend
+answer_traces-requires-clause-in_order g c κs within = opened_ascend c.args.best c.args.few.now c.as_slice.result.now (c.as_slice.ensures.value ∙ c.in-Ok.ensures) c.requires.ascend
 
 pub returns : goal.returns
 returns g c =

@@ -16,7 +16,7 @@ returns-in-Err g c =
     (λ parts. rose_none (look_ups (traces_of picks) look.pin.blocks parts) (g.P.LookPort.meaning.reads c.args.port.now))
 
 pub take_parts-requires-clause-apart : goal.take_parts-requires-clause-apart
-take_parts-requires-clause-apart g c =
+take_parts-requires-clause-apart g c κs within =
     parts_apart c.args.picks.items (c.as_slice.result.now ++ c.as_slice-in-Ok.result.now)
     (moved_parts c.args.picks.items c.as_slice.result.now c.as_slice-in-Ok.result.now c.in-Ok.late.items c.in-Ok.early.items c.in-Ok.ensures.same c.as_slice.ensures.value c.as_slice-in-Ok.ensures.value)
     c.requires.ascend
