@@ -7,7 +7,8 @@
 # they read, where `strace` is installed. `ingest.sh PROGRAM` takes a built program, else the one that `./vurnda` builds. Of ROUNDS runs (3)
 # the least wall time, the least processor time of all processes, user and system, and the most memory of one process are told.
 # Vurnda's have its opening, flushes and compactions in them, PostgreSQL's its server's beginning and end. The folder is in TMPDIR,
-# which should lie on the disk that is meant and not in memory. LINES_FILE may name a file that has the lines already.
+# which should lie on the disk that is meant and not in memory. LINES_FILE may name a file that has the lines already. Vurnda is given the
+# lines in a file: a pipe holds too few bytes for more than one line of so many spans, and such lines it reads one by one.
 set -eo pipefail
 here=$(cd "$(dirname "$0")" && pwd)
 work=${TMPDIR:-/tmp}/vurnda-bench/ingest
@@ -24,7 +25,8 @@ spent() { # NAME OUTPUT WORD ..: the name, and what a command takes that writes 
 }
 ingest() { # NAME LINES: an ingest of the first so many lines into a new folder
     rm -rf "$work/folder"
-    spent "$1" "$work/replies" "$program" "$work/folder" ingest < <(head -n "$2" "$work/lines")
+    head -n "$2" "$work/lines" > "$work/given"
+    spent "$1" "$work/replies" "$program" "$work/folder" ingest < "$work/given"
     if [ "$(grep -c "^ok push [0-9]* accepted=$spans rejected=0 skipped=0$" "$work/replies")" != "$2" ] || grep -q '^refused' "$work/replies"; then
         echo "ingest.sh: not all was taken, see $work/replies" >&2
         exit 1

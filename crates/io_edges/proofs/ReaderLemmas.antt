@@ -1,9 +1,11 @@
 -- What a reader of lines holds, step by step.
 use Rattle.std.proofs.Common.{◌≡◌, ◌≢◌, ℕ, ◌+◌, ◌<◌, ◌≤◌, Option, Some, None, is_some, arith, length-append, List, [], ◌∷◌, ◌++◌, length, get_or, take, drop, refl, sym, ap, subst, ◌∙◌, append_assoc, append-nil}
+use Rattle.std.specs.Prelude.{Result, Ok, Err, IfOk, IfSome, IfNone}
 use Rattle.std.specs.Io.KnownBytes.{Consumes, IsAtEnd}
 use Rattle.std.proofs.KnownBytes.{Consumes-nil, Consumes-trans}
 use Rattle.io_edges.specs.Lines.{taken_limit, without_return, lines}
 use Rattle.io_edges.specs.Reader.{Reader, Holds, IsBegun, IsLineOf, EndsByFeed, EndsInput, IsLastLine, IsNextLine, IsToRead, Answers, TakesBytes, begun_len, to_come, HasNoFeed}
+use Rattle.span_types.specs.declared.errors.Memory.{Memory}
 use Rattle.io_edges.specs.declared.begun.Begun.{Begun}
 use Rattle.io_edges.specs.declared.begun.Begun.TheVariants.{Kept}
 use Rattle.io_edges.specs.declared.line.Line.{Line}
@@ -141,6 +143,21 @@ Answers-feed mid after left answer ends text to_read =
       after = record { held = e.rest; rest = to_read.rest; holds = e.holds; told = to_read.told; text_is = refl };
     } in
     Answers-next answer text (without_return e.piece) (IsToRead after left) e.line next
+
+-- What was found among the bytes at hand is an answer, whatever remains in the source.
+pub Answers-at_hand : (mid after : Reader) (found : Result (Option Line) Memory)
+    → IfOk found (λ line. IfSome line (λ answer. (held : List ℕ) → Holds mid held → EndsByFeed held answer after))
+    → IfOk found (λ line. IfSome line (λ answer. (left : Option (List ℕ)) (text : List ℕ) → IsToRead mid left text → Answers answer text (IsToRead after left)))
+Answers-at_hand mid after (Ok (Some answer)) ends = λ left. Answers-feed mid after left answer ends
+Answers-at_hand mid after (Ok None) ends = ends
+Answers-at_hand mid after (Err e) ends = ends
+
+pub IsToRead-at_hand : (old now : Reader) (found : Result (Option Line) Memory)
+    → IfOk found (λ line. IfNone line ((held : List ℕ) → Holds old held → Holds now held))
+    → IfOk found (λ line. IfNone line ((left : Option (List ℕ)) (text : List ℕ) → IsToRead old left text → IsToRead now left text))
+IsToRead-at_hand old now (Ok (Some answer)) kept = kept
+IsToRead-at_hand old now (Ok None) kept = λ left. IsToRead-kept old now left kept
+IsToRead-at_hand old now (Err e) kept = kept
 
 -- At the end of input what is held is the last line, or there is none.
 pub Answers-end : (mid after : Reader) (left : Option (List ℕ)) (answer : Line) → ((held : List ℕ) → Holds mid held → EndsInput answer held)

@@ -12,9 +12,6 @@ use span_types::{Failed, Memory};
 use std::alloc::Global;
 use std::marker::Model;
 
-// How many bytes are asked for at once.
-const SIZE: usize = 65_536;
-
 // How many bytes are taken in all.
 pub(crate) const TAKEN_LIMIT: u64 = 1_099_511_627_776;
 
@@ -32,15 +29,17 @@ pub(crate) enum Fill {
 /// Bytes of a source that weren't looked at yet, in a buffer that is used again and again.
 #[derive(Debug, Drop)]
 pub(crate) struct Block {
-    // Empty before the first filling, and of `SIZE` bytes after it.
+    // Empty before the first filling, and of `size` bytes after it.
     bytes: Vec<u8>,
+    // How many bytes are asked for at once.
+    size: usize,
     from: usize,
     to: usize,
     taken: u64,
 }
 
 impl Model for Block {
-    ghost use Rattle.std.specs.Prelude.{◌≡◌, ◌-◌, ◌≤◌, length, take, drop};
+    ghost use Rattle.std.specs.Prelude.{◌≡◌, ◌-◌, ◌<◌, ◌≤◌, length, take, drop};
     ghost use Rattle.io_edges.specs.Lines.{taken_limit};
     ghost use Rattle.io_edges.specs.Buffered.{Buffered};
 
@@ -48,15 +47,19 @@ impl Model for Block {
 
     ghost view = { λ b. record { pending = take (b.to - b.from) (drop b.from b.bytes.items); taken = b.taken } };
 
-    ghost invariant = { λ b. (b.from ≤ b.to) × (b.to ≤ length b.bytes.items) × (b.taken ≤ taken_limit) };
+    ghost invariant = { λ b. (b.from ≤ b.to) × (b.to ≤ length b.bytes.items) × (0 < b.size)
+        × (b.taken ≤ taken_limit) };
 }
 
 impl Block {
-    pub(crate) fn new(alloc: Global) -> Block
+    // An empty block that asks for so many bytes at once.
+    pub(crate) fn new(alloc: Global, size: usize) -> Block
+        requires { 0 < size }
         ensures { result ≡ record { pending = []; taken = 0 } }
     {
         Block {
             bytes: Vec::new(alloc),
+            size,
             from: 0,
             to: 0,
             taken: 0,
@@ -108,7 +111,7 @@ impl Block {
         if room == 0 {
             return Ok(Fill::AllTaken);
         }
-        match make_room(&mut self.bytes) {
+        match make_room(&mut self.bytes, self.size) {
             Ok(()) => {}
             Err(Memory) => return Err(LineError::Memory),
         }
@@ -125,11 +128,12 @@ impl Block {
 }
 
 // Makes the buffer at its first use.
-fn make_room(bytes: &mut Vec<u8>) -> Result<(), Memory>
+fn make_room(bytes: &mut Vec<u8>, size: usize) -> Result<(), Memory>
+    requires { 0 < size }
     ensures { OnOk result (0 < vec_len bytes.new) }
 {
     if bytes.as_slice().is_empty() {
-        bytes.resize(SIZE, 0)?;
+        bytes.resize(size, 0)?;
     }
     Ok(())
 }

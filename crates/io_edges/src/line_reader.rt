@@ -1,6 +1,6 @@
 //! Makes lines of a source's bytes. A session and an ingest read their input by it.
 
-ghost use Rattle.std.specs.Prelude.{◌≡◌, ◌≢◌, ◌+◌, ◌<◌, ◌≤◌, ℕ, List, [], ◌++◌, length, slice_index, is_some, EachIndex, IfSome, IfNone, IfOk, OnErr, IsErrOf, Some};
+ghost use Rattle.std.specs.Prelude.{◌≡◌, ◌≢◌, ◌+◌, ◌<◌, ◌≤◌, ℕ, List, Option, [], ◌++◌, length, slice_index, is_some, EachIndex, IfSome, IfNone, IfOk, OnErr, IsErrOf, Some};
 ghost use Rattle.span_types.specs.Faults.{Rose};
 ghost use Rattle.std.specs.Io.KnownBytes.{Consumes};
 ghost use Rattle.io_edges.specs.Lines.{taken_limit};
@@ -16,6 +16,12 @@ use std::marker::Model;
 use std::mem;
 
 const LINE_FEED: u8 = 10;
+
+// How many bytes are asked for at once.
+const USUAL_SIZE: usize = 65_536;
+
+// How many bytes are asked for at once where many lines are to be at hand.
+const LARGE_SIZE: usize = 4_194_304;
 
 /// Reads a source line by line. A line ends at a line feed, byte 10, or at the end of input; one carriage return, byte
 /// 13, at its end isn't part of it.
@@ -56,9 +62,26 @@ impl LineReader {
         ensures to_read { (text : List ℕ) → IsToRead result (Some text) text }
         ensures taken { result.taken ≡ 0 }
     {
+        LineReader::asking(alloc, USUAL_SIZE)
+    }
+
+    /// A reader that took nothing and asks for 4,194,304 bytes at once, so that many lines may be at hand.
+    pub fn for_many(alloc: Global) -> LineReader
+        ensures to_read { (text : List ℕ) → IsToRead result (Some text) text }
+        ensures taken { result.taken ≡ 0 }
+    {
+        LineReader::asking(alloc, LARGE_SIZE)
+    }
+
+    // A reader that took nothing and asks for so many bytes at once.
+    fn asking(alloc: Global, size: usize) -> LineReader
+        requires { 0 < size }
+        ensures to_read { (text : List ℕ) → IsToRead result (Some text) text }
+        ensures taken { result.taken ≡ 0 }
+    {
         LineReader {
             alloc,
-            block: Block::new(alloc),
+            block: Block::new(alloc, size),
             begun: Begun::new(alloc),
         }
     }
@@ -111,6 +134,29 @@ impl LineReader {
                 Err(error) => return Err(error),
             }
         }
+    }
+
+    /// The next line, if the bytes that were taken already end it. No source is asked.
+    ///
+    /// # Errors
+    ///
+    /// Out of memory. The reader stands.
+    pub fn at_hand(&mut self) -> Result<Option<Line>, Memory>
+        // Whatever remains in the source, the answer is about the text that is still to be read as lines.
+        ensures line { IfOk result (λ found. IfSome found (λ line. (left : Option (List ℕ))
+            (text : List ℕ)
+            → IsToRead self.old left text → Answers line text (IsToRead self.new left))) }
+        ensures none { IfOk result (λ found. IfNone found ((left : Option (List ℕ))
+            (text : List ℕ) → IsToRead self.old left text → IsToRead self.new left text)) }
+        ensures limits { IfOk result
+            (λ found. IfSome found (λ line. IsWithinLimits line self.new.taken)) }
+        ensures nearer { IfOk result
+            (λ found. IfSome found (λ _. to_come self.new < to_come self.old)) }
+        ensures as_far { IfOk result (λ found. IfNone found (to_come self.new ≡ to_come self.old)) }
+        ensures taken { self.new.taken ≡ self.old.taken }
+        ensures stands { OnErr result (self.new ≡ self.old) }
+    {
+        self.scan()
     }
 
     // Looks for the end of a line in the pending bytes, and where there is none adds them to the line that is begun.

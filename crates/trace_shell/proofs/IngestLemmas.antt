@@ -1,15 +1,16 @@
 -- How turns of an ingest follow one another.
-use Rattle.std.proofs.Common.{◌≡◌, inl, inr, ℕ, ◌-◌, ◌<◌, ◌≤◌, Bool, true, false, List, [], ◌∷◌, ◌++◌, Option, Some, None, Ok, Err, nat_le, length, refl, sym, subst, arith, if◌then◌else◌}
+use Rattle.std.proofs.Common.{◌≡◌, inl, inr, ℕ, ◌-◌, ◌<◌, ◌≤◌, Bool, true, false, List, [], ◌∷◌, ◌++◌, Option, Some, None, Result, Ok, nat_le, length, refl, sym, subst, arith, if◌then◌else◌}
 use Rattle.std.specs.Prelude.{◌==◌}
 use Rattle.disk_model.specs.declared.disk.Device.{Ghosts}
-use Rattle.io_edges.specs.Lines.{line_limit}
-use Rattle.session_text.specs.declared.refusal.Refusal.TheVariants as refusal
+use Rattle.otlp_spans.specs.declared.read.Reading.{Reading}
+use Rattle.session_text.specs.declared.refusal.Refusal.{Refusal}
 use Rattle.session_text.specs.declared.reply.Reply.{Reply}
-use Rattle.session_text.specs.declared.reply.Reply.TheVariants.{Refused}
 use Rattle.session_text.specs.declared.request.Request.{Request}
 use Rattle.session_text.specs.declared.request.Request.TheVariants.{Compact, CutAll, Flush}
 use Rattle.session_text.specs.Items.{Item}
 use Rattle.session_text.specs.Requests.{AsksPush}
+use Rattle.line_windows.specs.Windows.{Gives, IsOf, pushed_at}
+use Rattle.line_windows.specs.declared.line.WindowLine.{WindowLine}
 use Rattle.store_core.specs.Cores.{held_in}
 use Rattle.store_core.specs.Port.{port_of}
 use Rattle.store_core.specs.declared.store.Core.{Core}
@@ -20,8 +21,8 @@ use Rattle.session_meaning.specs.Duties.{Duty, IsDue, ask, compact_all, due, fro
 use Rattle.session_meaning.specs.Ingest.{is_joined, many_rows}
 use Rattle.session_meaning.specs.Progress.{HasAnsweredOne, HasAnsweredOver, FollowsOver}
 use Rattle.session_meaning.proofs.IngestLaws.{ingests_then}
-use Rattle.session_meaning.proofs.SessionLaws.{one_refused, one_replied, over_begins, over_one, over_then}
-use Rattle.trace_shell.specs.Ingesting.{HasAsked, HaveGiven, IsLong, Leaves}
+use Rattle.session_meaning.proofs.SessionLaws.{one_replied, over_begins, over_one, over_then}
+use Rattle.trace_shell.specs.Ingesting.{HasAsked, HaveGiven, Leaves}
 use Rattle.trace_shell.specs.Turn.{HasGiven}
 use Rattle.trace_shell.specs.declared.session.Tally.{Tally}
 
@@ -269,16 +270,21 @@ module _ {D : Type 0} (g : Ghosts D) where
 
   -- ---- lines
 
-  -- What was done for a line.
-  abbrev pub LineDone : (before after : Core D) (old new : Option (List ℕ)) (tally_old tally_new : Tally) (line : List ℕ) (told to_tell : Option (List ℕ)) (stopped : Option Ending) → Type 0
+  -- What was done for a line of a window.
+  abbrev pub LineDone : (before after : Core D) (old new : Option (List ℕ)) (tally_old tally_new : Tally) (line : WindowLine) (told to_tell : Option (List ℕ)) (stopped : Option Ending) → Type 0
   LineDone before after old new tally_old tally_new line told to_tell stopped =
       (items : List Item) × (replies : List Reply) × HasAsked g before after old new tally_old tally_new items replies stopped
-      × ((later : List (List ℕ)) → Leaves g before after (from_lines (line ∷ later)) (from_lines later) told to_tell items replies stopped)
+      × ((bytes : List ℕ) (later : List (List ℕ)) → IsOf bytes line → Leaves g before after (from_lines (bytes ∷ later)) (from_lines later) told to_tell items replies stopped)
 
   -- For one without bytes nothing is.
-  pub empty_done : (core : Core D) (taken : Option (List ℕ)) (tally : Tally) (line : List ℕ) (told : Option (List ℕ)) → line ≡ [] → LineDone core core taken taken tally tally line told told None
-  empty_done core taken tally line told none =
-      ([], [], asked_none core taken tally, λ later. subst (λ (l : List ℕ). Leaves g core core (from_lines (l ∷ later)) (from_lines later) told told [] [] None) (sym none) (leaves_same core (from_lines later) told None))
+  pub empty_done : (core : Core D) (taken : Option (List ℕ)) (tally : Tally) (line : WindowLine) (told : Option (List ℕ)) → ((bytes : List ℕ) → IsOf bytes line → bytes ≡ [])
+      → LineDone core core taken taken tally tally line told told None
+  empty_done core taken tally line told none = (
+    [],
+    [],
+    asked_none core taken tally,
+    λ bytes later is. subst (λ (l : List ℕ). Leaves g core core (from_lines (l ∷ later)) (from_lines later) told told [] [] None) (sym (none bytes is)) (leaves_same core (from_lines later) told None),
+  )
 
   leaves_pushed : (before middle after : Core D) (line : List ℕ) (later : List (List ℕ)) (told to_tell : Option (List ℕ)) (item : Item) (reply : Reply) (items : List Item) (replies : List Reply) (stopped : Option Ending) (moment : ℕ)
       → 0 < length line → IsNextMoment told moment → AsksPush moment line item → to_tell ≡ after_moment told → HasAnsweredOne (port_of g) before item reply middle
@@ -315,45 +321,17 @@ module _ {D : Type 0} (g : Ghosts D) where
   ended_written before after old taken new tally_old tally tally_new reply items replies o stopped is given asked leaves =
       (items, replies, asked.answered, inr (taken, tally, subst (λ (s : Option Ending). HasGiven old taken tally_old tally reply s) is given, asked.given), leaves)
 
-  -- A line with bytes was answered.
-  pub line_done : (before middle after : Core D) (old new : Option (List ℕ)) (tally_old tally_new : Tally) (line : List ℕ) (told to_tell : Option (List ℕ)) (item : Item) (reply : Reply) (stopped : Option Ending) (moment : ℕ)
-      → 0 < length line → IsNextMoment told moment → AsksPush moment line item → to_tell ≡ after_moment told → HasAnsweredOne (port_of g) before item reply middle
-      → LineEnded middle after old new tally_old tally_new reply stopped → LineDone before after old new tally_old tally_new line told to_tell stopped
-  line_done before middle after old new tally_old tally_new line told to_tell item reply stopped moment some next asks is one (items, replies, answered, given, leaves) = (
-    item ∷ items,
-    reply ∷ replies,
-    record { answered = over_then (port_of g) before middle after (item ∷ []) items (reply ∷ []) replies (over_one (port_of g) before middle item reply one) answered; given = given },
-    λ later. leaves_pushed before middle after line later told to_tell item reply items replies stopped moment some next asks is one (leaves later to_tell),
-  )
-
--- A line of too many bytes is refused.
-too_long_asks : (moment size : ℕ) (line : List ℕ) → IsLong size line → line_limit < size → AsksPush moment line (Err (refusal.TooLong size))
-too_long_asks moment size line is long =
-    let over : line_limit < length line = subst (λ (n : ℕ). line_limit < n) is long in
-    subst (λ (n : ℕ). AsksPush moment line (Err (refusal.TooLong n))) (sym is) (rw (not_within (length line) over) (inl refl, refl))
-  where
-    not_within : (n : ℕ) → line_limit < n → nat_le n line_limit ≡ false
-    not_within n h = grind arith
-
-module _ {D : Type 0} (g : Ghosts D) where
-  pub long_done : (before after : Core D) (old new : Option (List ℕ)) (tally_old tally_new : Tally) (size : ℕ) (told to_tell : Option (List ℕ)) (stopped : Option Ending) (moment : ℕ)
-      → line_limit < size → IsNextMoment told moment → to_tell ≡ after_moment told → LineEnded g before after old new tally_old tally_new (Refused (refusal.TooLong size)) stopped
-      → (items : List Item) × (replies : List Reply) × HasAsked g before after old new tally_old tally_new items replies stopped
-      × ((line : List ℕ) (later : List (List ℕ)) → IsLong size line
-      → Leaves g before after (from_lines (line ∷ later)) (from_lines later) told to_tell items replies stopped)
-  long_done before after old new tally_old tally_new size told to_tell stopped moment long next is (items, replies, answered, given, leaves) =
-      let one : HasAnsweredOne (port_of g) before (Err (refusal.TooLong size)) (Refused (refusal.TooLong size)) before = one_refused (port_of g) before (refusal.TooLong size) in (
-        Err (refusal.TooLong size) ∷ items,
-        Refused (refusal.TooLong size) ∷ replies,
-        record {
-          answered = over_then (port_of g) before before after (Err (refusal.TooLong size) ∷ []) items (Refused (refusal.TooLong size) ∷ []) replies
-              (over_one (port_of g) before before (Err (refusal.TooLong size)) (Refused (refusal.TooLong size)) one) answered;
-          given = given;
-        },
-        λ line later sized.
-            leaves_pushed g before before after line later told to_tell (Err (refusal.TooLong size)) (Refused (refusal.TooLong size)) items replies stopped moment
-            (has_bytes size line sized long) next (too_long_asks moment size line sized long) is one (leaves later to_tell),
+  -- What a line gives was pushed.
+  pub given_done : (before middle after : Core D) (old new : Option (List ℕ)) (tally_old tally_new : Tally) (line : WindowLine) (given : Result Reading Refusal) (told to_tell : Option (List ℕ)) (reply : Reply) (stopped : Option Ending) (moment : ℕ)
+      → ((bytes : List ℕ) → IsOf bytes line → (0 < length bytes) × Gives bytes given) → IsNextMoment told moment → to_tell ≡ after_moment told
+      → HasAnsweredOne (port_of g) before (pushed_at moment given) reply middle → LineEnded middle after old new tally_old tally_new reply stopped
+      → LineDone before after old new tally_old tally_new line told to_tell stopped
+  given_done before middle after old new tally_old tally_new line given told to_tell reply stopped moment gives next is one (items, replies, answered, written, leaves) =
+      let item : Item = pushed_at moment given in (
+        item ∷ items,
+        reply ∷ replies,
+        record { answered = over_then (port_of g) before middle after (item ∷ []) items (reply ∷ []) replies (over_one (port_of g) before middle item reply one) answered; given = written },
+        λ bytes later of.
+            let it = gives bytes of in
+            leaves_pushed before middle after bytes later told to_tell item reply items replies stopped moment it.0 next (it.1 moment) is one (leaves later to_tell),
       )
-    where
-      has_bytes : (size : ℕ) (line : List ℕ) → IsLong size line → line_limit < size → 0 < length line
-      has_bytes size line sized long = omega (arith, sized, long)

@@ -11,37 +11,52 @@ use Rattle.store_core.specs.declared.store.Core.{Core}
 use Rattle.session_meaning.specs.declared.ending.Ending.{Ending}
 use Rattle.session_meaning.specs.declared.ending.Ending.TheVariants.{ReadFault, Spent, Starved, WriteFault}
 use Rattle.session_meaning.specs.Duties.{from_lines}
-use Rattle.trace_shell.specs.Ingesting.{HasAsked, HasReadTo, IsLong, IsReadingAt, IsStopped, Leaves, ReadOn, ending_in, turn_of}
+use Rattle.line_windows.specs.Windows.{AreNextLines, IsOf}
+use Rattle.line_windows.specs.declared.line.WindowLine.{WindowLine}
+use Rattle.trace_shell.specs.Ingesting.{HasAsked, HasPushed, HasReadTo, IsReadingAt, IsStopped, Leaves, ReadOn, ending_in, turn_of}
 use Rattle.trace_shell.specs.declared.ingesting.After.{After}
 use Rattle.trace_shell.specs.declared.ingesting.After.TheVariants as after
 use Rattle.trace_shell.specs.declared.session.Tally.{Tally}
-use Rattle.trace_shell.proofs.IngestLemmas.{LineDone, asked_none, asked_then, leaves_same, leaves_then}
+use Rattle.trace_shell.proofs.IngestLemmas.{asked_none, asked_then, leaves_same, leaves_then}
 use Rattle.trace_shell.proofs.TurnLemmas.{all_ended, nothing_left, taken_all, taken_within, took_more}
 
 further : (text front rest past later : List ℕ) → text ≡ front ++ rest → rest ≡ past ++ later → text ≡ (front ++ past) ++ later
 further text front rest past later is parts = is ∙ ap (λ xs. front ++ xs) parts ∙ sym (append_assoc front past later)
 
-one_more : (all pushed rest later : List (List ℕ)) (line : List ℕ) → all ≡ pushed ++ rest → rest ≡ line ∷ later → all ≡ (pushed ++ line ∷ []) ++ later
-one_more all pushed rest later line split next = split ∙ ap (λ ls. pushed ++ ls) next ∙ sym (append_assoc pushed (line ∷ []) later)
-
--- A line was read.
-pub reads_on : (text : List ℕ) (pushed : List (List ℕ)) (left_old left : Option (List ℕ)) (reader_old reader : Reader) (line : List ℕ) (at : IsReadingAt text pushed left_old reader_old)
-    → IsNextLine at.rest line (IsToRead reader left) → TakesBytes left_old left reader_old.taken reader.taken → IsReadingAt text (pushed ++ line ∷ []) left reader
-reads_on text pushed left_old left reader_old reader line at next took = record {
-  front = at.front ++ next.past;
-  rest = next.rest;
-  text_is = further text at.front at.rest next.past next.rest at.text_is next.parts;
-  lines_are = one_more (lines text) pushed (lines at.rest) (lines next.rest) line at.lines_are next.first;
-  to_read = next.after;
-  took = took_more text left_old left 0 reader_old.taken reader.taken at.took took;
+-- Lines after a first one.
+next_lines : (text line : List ℕ) (more : List (List ℕ)) (Middle ToRead : List ℕ → Type 0) (one : IsNextLine text line Middle) → AreNextLines one.rest more ToRead → AreNextLines text (line ∷ more) ToRead
+next_lines text line more Middle ToRead one two = record {
+  past = one.past ++ two.past;
+  rest = two.rest;
+  parts = further text one.past one.rest two.past two.rest one.parts two.parts;
+  first = one.first ∙ ap (λ (ls : List (List ℕ)). line ∷ ls) two.first;
+  after = two.after;
 }
 
--- The run goes on after it, or ends.
-reads_turn : (text : List ℕ) (pushed : List (List ℕ)) (left : Option (List ℕ)) (reader : Reader) (o : Option Ending) → IfSome o (λ e. (e ≡ WriteFault) ⊎ (e ≡ Starved))
-    → IsReadingAt text pushed left reader → ReadOn (turn_of o) text pushed left reader
-reads_turn text pushed left reader None ends at = at
-reads_turn text pushed left reader (Some e) (inl is) at = subst (λ (x : Ending). HasReadTo (Some x) text pushed left) (sym is) (lines at.rest, at.lines_are, tt)
-reads_turn text pushed left reader (Some e) (inr is) at = subst (λ (x : Ending). HasReadTo (Some x) text pushed left) (sym is) (lines at.rest, at.lines_are, tt)
+split_lines : (all pushed read asked more later : List (List ℕ)) → all ≡ pushed ++ read → read ≡ (asked ++ more) ++ later → all ≡ (pushed ++ asked) ++ (more ++ later)
+split_lines all pushed read asked more later is parts =
+    is ∙ ap (λ (ls : List (List ℕ)). pushed ++ ls) (parts ∙ append_assoc asked more later) ∙ sym (append_assoc pushed asked (more ++ later))
+
+-- The lines `asked` and `more` were read, and those of `asked` pushed. The run goes on where these are all, or it ends.
+reads_turn : (text : List ℕ) (pushed ls asked more : List (List ℕ)) (left_old left : Option (List ℕ)) (reader_old reader : Reader) (o : Option Ending) (at : IsReadingAt text pushed left_old reader_old)
+    → IfSome o (λ e. (e ≡ WriteFault) ⊎ (e ≡ Starved)) → AreNextLines at.rest ls (IsToRead reader left) → ls ≡ asked ++ more → (o ≡ None → more ≡ [])
+    → TakesBytes left_old left reader_old.taken reader.taken → ReadOn (turn_of o) text (pushed ++ asked) left reader
+reads_turn text pushed ls asked more left_old left reader_old reader None at ends next are all took =
+    let split = split_lines (lines text) pushed (lines at.rest) asked more (lines next.rest) at.lines_are (next.first ∙ ap (λ (xs : List (List ℕ)). xs ++ lines next.rest) are) in record {
+      front = at.front ++ next.past;
+      rest = next.rest;
+      text_is = further text at.front at.rest next.past next.rest at.text_is next.parts;
+      lines_are = split ∙ ap (λ (xs : List (List ℕ)). (pushed ++ asked) ++ (xs ++ lines next.rest)) (all refl);
+      to_read = next.after;
+      took = took_more text left_old left 0 reader_old.taken reader.taken at.took took;
+    }
+reads_turn text pushed ls asked more left_old left reader_old reader (Some e) at ends next are all took =
+    let split = split_lines (lines text) pushed (lines at.rest) asked more (lines next.rest) at.lines_are (next.first ∙ ap (λ (xs : List (List ℕ)). xs ++ lines next.rest) are) in
+    ends_so e ends (more ++ lines next.rest, split)
+  where
+    ends_so : (x : Ending) → (x ≡ WriteFault) ⊎ (x ≡ Starved) → (later : List (List ℕ)) × (lines text ≡ (pushed ++ asked) ++ later) → HasReadTo (Some x) text (pushed ++ asked) left
+    ends_so x (inl is) (later, split) = subst (λ (y : Ending). HasReadTo (Some y) text (pushed ++ asked) left) (sym is) (later, split, tt)
+    ends_so x (inr is) (later, split) = subst (λ (y : Ending). HasReadTo (Some y) text (pushed ++ asked) left) (sym is) (later, split, tt)
 
 pub is_stopped : (o : Option Ending) → IfSome o (λ e. (e ≡ WriteFault) ⊎ (e ≡ Starved)) → IsStopped o o
 is_stopped None ends = refl
@@ -62,50 +77,31 @@ module _ {D : Type 0} (g : Ghosts D) where
       × ((later : List (List ℕ)) → Leaves g before after (from_lines (asked ++ later)) (from_lines later) told to_tell items replies stopped)
       × ReadOn turn text (pushed ++ asked) left reader)
 
-  line_turn : (before after : Core D) (old new : Option (List ℕ)) (tally_old tally_new : Tally) (told to_tell left_old left : Option (List ℕ)) (reader_old reader : Reader) (o : Option Ending)
-      (IsOf : List ℕ → Type 0) (items : List Item) (replies : List Reply) → HasAsked g before after old new tally_old tally_new items replies o
-      → IfSome o (λ e. (e ≡ WriteFault) ⊎ (e ≡ Starved))
-      → ((line : List ℕ) → IsOf line → (later : List (List ℕ)) → Leaves g before after (from_lines (line ∷ later)) (from_lines later) told to_tell items replies o)
-      → ((rest : List ℕ) → IsToRead reader_old left_old rest → (line : List ℕ) × IsNextLine rest line (IsToRead reader left) × IsOf line)
+  -- A line was read, and those after it that were at hand, and they were pushed.
+  pub window_turn : (before after : Core D) (old new : Option (List ℕ)) (tally_old tally_new : Tally) (told to_tell left_old left : Option (List ℕ)) (reader_old middle reader : Reader) (first : WindowLine) (o : Option Ending) (turn : After)
+      → turn ≡ turn_of o → IfSome o (λ e. (e ≡ WriteFault) ⊎ (e ≡ Starved))
+      → ((items : List Item) × (replies : List Reply) × HasAsked g before after old new tally_old tally_new items replies o
+      × ((line : List ℕ) (left : Option (List ℕ)) (text : List ℕ) → IsOf line first → IsToRead middle left text → (more : List (List ℕ)) × AreNextLines text more (IsToRead reader left)
+      × HasPushed g before after told to_tell items replies o (line ∷ more)))
+      → ((rest : List ℕ) → IsToRead reader_old left_old rest → (line : List ℕ) × IsNextLine rest line (IsToRead middle left) × IsOf line first)
       → TakesBytes left_old left reader_old.taken reader.taken
-      → Turns before after old new tally_old tally_new told to_tell left_old left reader_old reader (turn_of o)
-  line_turn before after old new tally_old tally_new told to_tell left_old left reader_old reader o IsOf items replies asked ends leaves next took = (
+      → Turns before after old new tally_old tally_new told to_tell left_old left reader_old reader turn
+  window_turn before after old new tally_old tally_new told to_tell left_old left reader_old middle reader first o turn is ends (items, replies, asked, pushes) next took = (
     items,
     replies,
     o,
     asked,
-    subst (λ (x : Option Ending). IsStopped x o) (sym (ending_of_turn o)) (is_stopped o ends),
+    subst (λ (x : Option Ending). IsStopped x o) (sym (ap ending_in is ∙ ending_of_turn o)) (is_stopped o ends),
     λ text pushed at.
-        let line = next at.rest at.to_read in (
-          line.0 ∷ [],
-          leaves line.0 line.2,
-          reads_turn text (pushed ++ line.0 ∷ []) left reader o ends (reads_on text pushed left_old left reader_old reader line.0 at line.1 took),
+        let one = next at.rest at.to_read in
+        let two = pushes one.0 left one.1.rest one.2 one.1.after in (
+          two.2.asked,
+          two.2.each,
+          subst (λ (t : After). ReadOn t text (pushed ++ two.2.asked) left reader) (sym is)
+              (reads_turn text pushed (one.0 ∷ two.0) two.2.asked two.2.more left_old left reader_old reader o at ends
+              (next_lines at.rest one.0 two.0 (IsToRead middle left) (IsToRead reader left) one.1 two.1) two.2.are two.2.all took),
         ),
   )
-
-  -- A whole line was read, and pushed.
-  pub whole_turn : (before after : Core D) (old new : Option (List ℕ)) (tally_old tally_new : Tally) (told to_tell left_old left : Option (List ℕ)) (reader_old reader : Reader) (line : List ℕ) (o : Option Ending) (turn : After)
-      → turn ≡ turn_of o → IfSome o (λ e. (e ≡ WriteFault) ⊎ (e ≡ Starved)) → LineDone g before after old new tally_old tally_new line told to_tell o
-      → ((rest : List ℕ) → IsToRead reader_old left_old rest → IsNextLine rest line (IsToRead reader left)) → TakesBytes left_old left reader_old.taken reader.taken
-      → Turns before after old new tally_old tally_new told to_tell left_old left reader_old reader turn
-  whole_turn before after old new tally_old tally_new told to_tell left_old left reader_old reader line o turn is ends (items, replies, asked, leaves) next took =
-      subst (λ (t : After). Turns before after old new tally_old tally_new told to_tell left_old left reader_old reader t) (sym is)
-      (line_turn before after old new tally_old tally_new told to_tell left_old left reader_old reader o (λ l. line ≡ l) items replies asked ends
-      (λ l same later. subst (λ (x : List ℕ). Leaves g before after (from_lines (x ∷ later)) (from_lines later) told to_tell items replies o) same (leaves later))
-      (λ rest to_read. (line, next rest to_read, refl)) took)
-
-  -- One of too many bytes was, and refused.
-  pub long_turn : (before after : Core D) (old new : Option (List ℕ)) (tally_old tally_new : Tally) (told to_tell left_old left : Option (List ℕ)) (reader_old reader : Reader) (size : ℕ) (o : Option Ending) (turn : After)
-      → turn ≡ turn_of o → IfSome o (λ e. (e ≡ WriteFault) ⊎ (e ≡ Starved))
-      → ((items : List Item) × (replies : List Reply) × HasAsked g before after old new tally_old tally_new items replies o
-      × ((line : List ℕ) (later : List (List ℕ)) → IsLong size line → Leaves g before after (from_lines (line ∷ later)) (from_lines later) told to_tell items replies o))
-      → ((rest : List ℕ) → IsToRead reader_old left_old rest → (line : List ℕ) × IsNextLine rest line (IsToRead reader left) × (size ≡ length line))
-      → TakesBytes left_old left reader_old.taken reader.taken
-      → Turns before after old new tally_old tally_new told to_tell left_old left reader_old reader turn
-  long_turn before after old new tally_old tally_new told to_tell left_old left reader_old reader size o turn is ends (items, replies, asked, leaves) next took =
-      subst (λ (t : After). Turns before after old new tally_old tally_new told to_tell left_old left reader_old reader t) (sym is)
-      (line_turn before after old new tally_old tally_new told to_tell left_old left reader_old reader o (λ l. IsLong size l) items replies asked ends
-      (λ l same later. leaves l later same) next took)
 
   -- Nothing was asked in a turn.
   pub idle_turn : (core : Core D) (taken : Option (List ℕ)) (tally : Tally) (told left_old left : Option (List ℕ)) (reader_old reader : Reader) (turn : After) → IsStopped (ending_in turn) None

@@ -5,6 +5,7 @@ pub mod StoreLemmas
 pub mod ArgumentLemmas
 pub mod IngestLemmas
 pub mod IngestReads
+pub mod IngestWindows
 pub mod IngestEnds
 pub mod DrillLemmas
 pub mod DealingLemmas

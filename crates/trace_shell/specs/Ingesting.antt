@@ -9,7 +9,7 @@ use Rattle.store_core.specs.Port.{port_of}
 use Rattle.store_core.specs.declared.store.Core.{Core}
 use Rattle.session_meaning.specs.declared.ending.Ending.{Ending}
 use Rattle.session_meaning.specs.declared.ending.Ending.TheVariants.{ReadFault, Spent, Starved, WriteFault}
-use Rattle.session_meaning.specs.Duties.{Duty}
+use Rattle.session_meaning.specs.Duties.{Duty, from_lines}
 use Rattle.session_meaning.specs.Progress.{HasAnsweredOver, FollowsOver}
 use Rattle.session_meaning.specs.Session.{IsAllEnded}
 use Rattle.trace_shell.specs.Turn.{HasGiven, ending_of}
@@ -40,6 +40,15 @@ pub record Leaves {D : Type 0} (g : Ghosts D) (before after : Core D) (todo late
   pub each : FollowsOver g todo told before items replies after left to_tell
   pub all : stopped ≡ None → left ≡ later
 
+-- Of these lines some were pushed, in order: all of them, unless the run ends with a reply.
+pub record HasPushed {D : Type 0} (g : Ghosts D) (before after : Core D) (told to_tell : Option (List ℕ)) (items : List Item) (replies : List Reply)
+    (stopped : Option Ending) (lines : List (List ℕ)) : Type 0 where
+  pub asked : List (List ℕ)
+  pub more : List (List ℕ)
+  pub are : lines ≡ asked ++ more
+  pub all : stopped ≡ None → more ≡ []
+  pub each : (later : List (List ℕ)) → Leaves g before after (from_lines (asked ++ later)) (from_lines later) told to_tell items replies stopped
+
 -- how a run ends that did all, or that ended before
 abbrev pub ended_by : Option Ending → Tally → Ending
 ended_by None tally = ending_of tally
@@ -49,10 +58,6 @@ ended_by (Some ending) tally = ending
 abbrev pub stopped_in : Result Bool Ending → Option Ending
 stopped_in (Ok joined) = None
 stopped_in (Err ending) = Some ending
-
--- a line of so many bytes
-abbrev pub IsLong : ℕ → List ℕ → Type 0
-IsLong size line = size ≡ length line
 
 -- ---- what was read
 

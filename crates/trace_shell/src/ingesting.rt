@@ -1,11 +1,12 @@
-//! An ingest: the lines of a source are pushed in order over a store's core, as requests in OTLP/JSON. The store is
-//! kept small in between, and flushed, compacted and rid of its loose files at the end. Each reply is written before
-//! anything else is asked.
+//! An ingest: the lines of a source are pushed in order over a store's core, as requests in OTLP/JSON. Those that are at
+//! hand together are read in threads, and then pushed one by one. The store is kept small in between, and flushed,
+//! compacted and rid of its loose files at the end. Each reply is written before anything else is asked.
 
 ghost use Rattle.std.specs.Prelude.{◌≡◌, ◌⊎◌, ◌≤◌, ◌<◌, ◌-◌, ◌++◌, ℕ, List, [], ◌∷◌, Bool, true, false, Option, Some, None, Ok, IfSome, IfOk, IfErr, if◌then◌else◌};
 ghost use Rattle.span_types.specs.Faults.{Rose};
-ghost use Rattle.io_edges.specs.Lines.{line_limit, taken_limit};
-ghost use Rattle.io_edges.specs.Reader.{TakesBytes, to_come};
+ghost use Rattle.io_edges.specs.Lines.{taken_limit};
+ghost use Rattle.io_edges.specs.Reader.{IsToRead, TakesBytes, to_come};
+ghost use Rattle.line_windows.specs.Windows.{AreNextLines, AreOf, IsOf, pushed_at};
 ghost use Rattle.store_core.specs.Port.{port_of};
 ghost use Rattle.store_model.specs.Holds.{Hold};
 ghost use Rattle.session_text.specs.declared.reply.Reply.{Reply};
@@ -19,12 +20,14 @@ ghost use Rattle.session_meaning.specs.Ingest.{is_joined};
 ghost use Rattle.session_meaning.specs.Progress.{HasAnsweredOne, HasAnsweredOver, FollowsOver};
 ghost use Rattle.session_meaning.specs.Runs.{IsPastOpening};
 ghost use Rattle.trace_shell.specs.Turn.{CameByLines};
-ghost use Rattle.trace_shell.specs.Ingesting.{HasAsked, HasReadTo, HaveGiven, IsLong, IsReadingAt, IsStopped, Leaves, ReadOn, ended_by, ending_in, stopped_in, turn_of};
+ghost use Rattle.trace_shell.specs.Ingesting.{HasAsked, HasPushed, HasReadTo, HaveGiven, IsReadingAt, IsStopped, Leaves, ReadOn, ended_by, ending_in, stopped_in, turn_of};
 
 use crate::session::{CLIENT, Tally, write};
 use client_run::answer_request;
 use disk_model::Device;
 use io_edges::{Clock, Gate, Line, LineError, LineReader, Sink, Source};
+use line_windows::{WindowLine, given, read_all, too_long, whole, window_from};
+use otlp_spans::Reading;
 use session_meaning::Ending;
 use session_text::{Refusal, Reply, Request, read_push};
 use std::alloc::Global;
@@ -49,8 +52,8 @@ pub(crate) enum After {
 
 /// Pushes the lines of the source in order to a core. Before the first line and after each push all rows are cut and
 /// flushed where 131,072 rows or more are held outside of blocks; and at the end all are, blocks are compacted as long
-/// as any are joined, and loose files are emptied. Each reply is written before anything else is asked or read. The
-/// clock is asked once for each line that has bytes.
+/// as any are joined, and loose files are emptied. Each reply is written before anything else is asked of the core, and
+/// before the source is asked for more. The clock is asked once for each line that has bytes.
 pub(crate) fn ingest<R: Threads + Sync, S: Source, K: Sink, D: Device, C: Clock, G: Gate>(
     rt: &R,
     alloc: Global,
@@ -118,7 +121,7 @@ fn push_all<R: Threads + Sync, S: Source, K: Sink, D: Device, C: Clock, G: Gate>
         taken_limit) }
     ensures endings { IfSome result IsPastOpening }
 {
-    let mut reader = LineReader::new(alloc);
+    let mut reader = LineReader::for_many(alloc);
     'lines: loop {
         match push_next(
             rt,
@@ -138,7 +141,7 @@ fn push_all<R: Threads + Sync, S: Source, K: Sink, D: Device, C: Clock, G: Gate>
     }
 }
 
-// Reads the next line, pushes it and keeps the store small.
+// Reads the next line and those after it that are at hand, and pushes them one after another.
 fn push_next<R: Threads + Sync, S: Source, K: Sink, D: Device, C: Clock, G: Gate>(
     rt: &R,
     alloc: Global,
@@ -186,11 +189,13 @@ fn push_next<R: Threads + Sync, S: Source, K: Sink, D: Device, C: Clock, G: Gate
     };
     match line {
         Line::Whole(bytes) => {
-            go_on(push_line(rt, alloc, tally, sink, core, clock, gate, bytes.as_slice()))
+            let first = whole(bytes);
+            go_on(push_from(rt, alloc, reader, first, tally, sink, core, clock, gate))
         }
-        Line::TooLong { length } => go_on(refuse_long(
-            rt, alloc, tally, sink, core, clock, gate, length,
-        )),
+        Line::TooLong { length } => {
+            let first = too_long(length);
+            go_on(push_from(rt, alloc, reader, first, tally, sink, core, clock, gate))
+        }
         Line::End => After::End,
         Line::Spent { .. } => After::Ending(Ending::Spent),
     }
@@ -207,6 +212,78 @@ fn go_on(ended: Option<Ending>) -> After
     }
 }
 
+// Pushes a line that was read, and those after it that the reader has at hand. They are read in threads first.
+fn push_from<R: Threads + Sync, K: Sink, D: Device, C: Clock, G: Gate>(
+    rt: &R,
+    alloc: Global,
+    reader: &mut LineReader,
+    first: WindowLine,
+    tally: &mut Tally,
+    sink: &mut K,
+    core: &mut Core<D>,
+    clock: &mut C,
+    gate: &G,
+) -> Option<Ending>
+    requires { (held : List Hold) × (port_of D.Device.own).holds core.old held }
+    ensures pushed { (items : List Item) × (replies : List Reply)
+        × HasAsked D.Device.own core.old core.new (K.taken sink.old)
+        (K.taken sink.new) tally.old tally.new items
+        replies result
+        × ((line : List ℕ) (left : Option (List ℕ)) (text : List ℕ) → IsOf line first
+        → IsToRead reader.old left text → (more : List (List ℕ))
+        × AreNextLines text more (IsToRead reader.new left)
+        × HasPushed D.Device.own core.old core.new (C.moments clock.old) (C.moments clock.new)
+        items replies result (line ∷ more)) }
+    ensures taken { reader.new.taken ≡ reader.old.taken }
+    ensures nearer { to_come reader.new ≤ to_come reader.old }
+    ensures sink_counted { K.faults sink.old ≤ K.faults sink.new }
+    ensures write_fault { IfSome result (λ ending. ending ≡ WriteFault
+        → Rose (K.faults sink.old) (K.faults sink.new)) }
+    ensures endings { IfSome result (λ ending. (ending ≡ WriteFault) ⊎ (ending ≡ Starved)) }
+{
+    match window_from(alloc, reader, first) {
+        Ok(mut window) => {
+            read_all(rt, alloc, window.as_mut_slice());
+            push_window(rt, alloc, tally, sink, core, clock, gate, window)
+        }
+        // Out of memory for a window the line is pushed alone.
+        Err(line) => push_line(rt, alloc, tally, sink, core, clock, gate, line),
+    }
+}
+
+// Pushes the lines of a window, until the run ends.
+fn push_window<R: Threads + Sync, K: Sink, D: Device, C: Clock, G: Gate>(
+    rt: &R,
+    alloc: Global,
+    tally: &mut Tally,
+    sink: &mut K,
+    core: &mut Core<D>,
+    clock: &mut C,
+    gate: &G,
+    window: Vec<WindowLine>,
+) -> Option<Ending>
+    requires { (held : List Hold) × (port_of D.Device.own).holds core.old held }
+    ensures pushed { (items : List Item) × (replies : List Reply)
+        × HasAsked D.Device.own core.old core.new (K.taken sink.old)
+        (K.taken sink.new) tally.old tally.new items
+        replies result
+        × ((lines : List (List ℕ)) → AreOf lines window.items
+        → HasPushed D.Device.own core.old core.new (C.moments clock.old) (C.moments clock.new)
+        items replies result lines) }
+    ensures sink_counted { K.faults sink.old ≤ K.faults sink.new }
+    ensures write_fault { IfSome result (λ ending. ending ≡ WriteFault
+        → Rose (K.faults sink.old) (K.faults sink.new)) }
+    ensures endings { IfSome result (λ ending. (ending ≡ WriteFault) ⊎ (ending ≡ Starved)) }
+{
+    for line in window {
+        match push_line(rt, alloc, tally, sink, core, clock, gate, line) {
+            Some(ending) => return Some(ending),
+            None => {}
+        }
+    }
+    None
+}
+
 // Pushes a line, writes the reply and keeps the store small. A line without bytes gets no reply, and nothing is done
 // for it.
 fn push_line<R: Threads + Sync, K: Sink, D: Device, C: Clock, G: Gate>(
@@ -217,15 +294,15 @@ fn push_line<R: Threads + Sync, K: Sink, D: Device, C: Clock, G: Gate>(
     core: &mut Core<D>,
     clock: &mut C,
     gate: &G,
-    line: &[u8],
+    line: WindowLine,
 ) -> Option<Ending>
     requires { (held : List Hold) × (port_of D.Device.own).holds core.old held }
     ensures pushed { (items : List Item) × (replies : List Reply)
         × HasAsked D.Device.own core.old core.new (K.taken sink.old)
         (K.taken sink.new) tally.old tally.new items
         replies result
-        × ((later : List (List ℕ))
-        → Leaves D.Device.own core.old core.new (from_lines (line.now ∷ later))
+        × ((bytes : List ℕ) (later : List (List ℕ)) → IsOf bytes line
+        → Leaves D.Device.own core.old core.new (from_lines (bytes ∷ later))
         (from_lines later)
         (C.moments clock.old) (C.moments clock.new) items replies result) }
     ensures sink_counted { K.faults sink.old ≤ K.faults sink.new }
@@ -233,12 +310,37 @@ fn push_line<R: Threads + Sync, K: Sink, D: Device, C: Clock, G: Gate>(
         → Rose (K.faults sink.old) (K.faults sink.new)) }
     ensures endings { IfSome result (λ ending. (ending ≡ WriteFault) ⊎ (ending ≡ Starved)) }
 {
-    if line.is_empty() {
-        return None;
+    match given(alloc, line) {
+        Some(given) => {
+            // A line that is refused takes a moment of the clock like any other.
+            let moment = clock.now();
+            let reply = push_given(rt, alloc, core, gate, given, moment);
+            end_line(rt, alloc, tally, sink, core, gate, &reply)
+        }
+        None => None,
     }
-    let moment = clock.now();
-    let reply = push(rt, alloc, core, gate, line, moment);
-    end_line(rt, alloc, tally, sink, core, gate, &reply)
+}
+
+// Pushes what a line gives at this moment, in nanoseconds.
+fn push_given<R: Threads + Sync, D: Device, G: Gate>(
+    rt: &R,
+    alloc: Global,
+    core: &mut Core<D>,
+    gate: &G,
+    given: Result<Reading, Refusal>,
+    moment: u64,
+) -> Reply
+    requires { (held : List Hold) × (port_of D.Device.own).holds core.old held }
+    ensures { HasAnsweredOne (port_of D.Device.own) core.old (pushed_at moment given)
+        result core.new }
+{
+    match given {
+        Ok(reading) => {
+            let request = Request::Push { reading, moment };
+            answer_request(rt, alloc, core, request, CLIENT, gate)
+        }
+        Err(why) => Reply::Refused(why),
+    }
 }
 
 // Pushes what a line holds that was read at this moment, in nanoseconds.
@@ -259,37 +361,6 @@ pub(crate) fn push<R: Threads + Sync, D: Device, G: Gate>(
         Ok(request) => answer_request(rt, alloc, core, request, CLIENT, gate),
         Err(why) => Reply::Refused(why),
     }
-}
-
-// Refuses a line of so many bytes, which are too many, writes the reply and keeps the store small.
-fn refuse_long<R: Threads + Sync, K: Sink, D: Device, C: Clock, G: Gate>(
-    rt: &R,
-    alloc: Global,
-    tally: &mut Tally,
-    sink: &mut K,
-    core: &mut Core<D>,
-    clock: &mut C,
-    gate: &G,
-    length: u64,
-) -> Option<Ending>
-    requires holds { (held : List Hold) × (port_of D.Device.own).holds core.old held }
-    requires long { line_limit < length }
-    ensures pushed { (items : List Item) × (replies : List Reply)
-        × HasAsked D.Device.own core.old core.new (K.taken sink.old)
-        (K.taken sink.new) tally.old tally.new items
-        replies result
-        × ((line : List ℕ) (later : List (List ℕ)) → IsLong length line
-        → Leaves D.Device.own core.old core.new (from_lines (line ∷ later)) (from_lines later)
-        (C.moments clock.old) (C.moments clock.new) items replies result) }
-    ensures sink_counted { K.faults sink.old ≤ K.faults sink.new }
-    ensures write_fault { IfSome result (λ ending. ending ≡ WriteFault
-        → Rose (K.faults sink.old) (K.faults sink.new)) }
-    ensures endings { IfSome result (λ ending. (ending ≡ WriteFault) ⊎ (ending ≡ Starved)) }
-{
-    // A line that is refused unread takes a moment of the clock like any other.
-    let _moment = clock.now();
-    let reply = Reply::Refused(Refusal::TooLong { length });
-    end_line(rt, alloc, tally, sink, core, gate, &reply)
 }
 
 // Writes the reply to a line, and keeps the store small.

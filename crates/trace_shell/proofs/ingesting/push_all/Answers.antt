@@ -16,11 +16,11 @@ use Rattle.trace_shell.proofs.ingesting.push_all.Goals as goal
 
 pub lines-init : goal.lines-init
 lines-init g c = record {
-  at = turned_begin g.D.Device c.args.core.now _ c.args.tally.now _ _ c.new-reader.result c.new-reader.ensures.to_read c.new-reader.ensures.taken;
+  at = turned_begin g.D.Device c.args.core.now _ c.args.tally.now _ _ c.for_many-reader.result c.for_many-reader.ensures.to_read c.for_many-reader.ensures.taken;
   holds = c.requires;
   source_counted = omega arith;
   sink_counted = omega arith;
-  took = took_none _ _ c.new-reader.ensures.taken;
+  took = took_none _ _ c.for_many-reader.ensures.taken;
 }
 
 pub lines-preserved : goal.lines-preserved
