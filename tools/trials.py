@@ -1,5 +1,5 @@
-"""Runs of a built program for tools/hostile, tools/faults and tools/growth: what they push, and what docs/LINE-PROTOCOL.md says of
-how a run may answer and end."""
+"""Runs of a built program for tools/hostile, tools/faults, tools/growth and tools/served: what they push, what docs/LINE-PROTOCOL.md
+says of how a run may answer and end, and calls for memory that are refused."""
 from __future__ import annotations
 
 import json
@@ -85,6 +85,50 @@ def why_not_documented(ran: Ran, asked: int, streams: Sequence[int] = ()) -> Opt
     if not fits.get(ran.status):
         return f"status {ran.status} with {len(ran.replies)} of {asked} replies, {len(refusals)} of them refusals"
     return None
+
+
+# ---- less memory
+
+# Refuses those calls for memory whose number, from 1, is from REFUSE_FROM to REFUSE_TO, and writes how many there were.
+LIBRARY = r"""
+#include <errno.h>
+#include <stdio.h>
+#include <stdlib.h>
+void *__libc_malloc(size_t), *__libc_calloc(size_t, size_t), *__libc_realloc(void *, size_t), *__libc_memalign(size_t, size_t);
+static unsigned long count;
+static int refused(void) {
+    const char *from = getenv("REFUSE_FROM"), *to = getenv("REFUSE_TO");
+    count++;
+    return from && to && count >= strtoul(from, 0, 10) && count <= strtoul(to, 0, 10) && (errno = ENOMEM);
+}
+void *malloc(size_t size) { return refused() ? 0 : __libc_malloc(size); }
+void *calloc(size_t items, size_t size) { return refused() ? 0 : __libc_calloc(items, size); }
+void *realloc(void *had, size_t size) { return refused() ? 0 : __libc_realloc(had, size); }
+void *aligned_alloc(size_t align, size_t size) { return refused() ? 0 : __libc_memalign(align, size); }
+int posix_memalign(void **made, size_t align, size_t size) { *made = aligned_alloc(align, size); return *made ? 0 : ENOMEM; }
+__attribute__((destructor)) static void tell(void) {
+    FILE *file = getenv("REFUSE_TOLD") ? fopen(getenv("REFUSE_TOLD"), "w") : 0;
+    if (file && fprintf(file, "%lu", count) > 0) fclose(file);
+}
+"""
+
+
+def library_in(room: str) -> Optional[str]:
+    """The library that refuses memory, if there is a compiler of C."""
+    with open(f"{room}/refuse.c", "w", encoding="ascii") as file:
+        file.write(LIBRARY)
+    words = ["cc", "-O1", "-shared", "-fPIC", "-o", f"{room}/refuse.so", f"{room}/refuse.c"]
+    made = shutil.which("cc") and subprocess.run(words, capture_output=True).returncode == 0
+    return f"{room}/refuse.so" if made else None
+
+
+def refusing(library: str, first: int, last: int) -> Callable[[], None]:
+    return lambda: os.environ.update(LD_PRELOAD=library, REFUSE_FROM=str(first), REFUSE_TO=str(last))
+
+
+def is_refused(reply: str) -> bool:
+    """Whether a reply may stand in place of another one if memory is refused."""
+    return reply in (MEMORY, "refused disk-fault") or reply.startswith("refused read-only ")
 
 
 class Tally:

@@ -1,4 +1,4 @@
-//! Spans that clients push: all of one trace, each with an id of its own.
+//! Spans that clients push: ten in a row are of one trace, and each has an id of its own.
 
 ghost use Rattle.std.specs.Prelude.{None};
 ghost use Rattle.span_types.specs.Promises.{AreNames};
@@ -11,13 +11,17 @@ use span_types::{
 };
 use std::alloc::Global;
 
+/// So many of a client's spans in a row are of one trace.
+pub(crate) const TRACE_SPANS: u16 = 10;
+
 // The key of a client's span with this number.
-pub(crate) fn key(client: u8, number: u16) -> Key
+fn key(client: u8, number: u16) -> Key
     ensures { AreNames result.trace result.span None }
 {
     let [a, b] = number.to_be_bytes();
+    let [c, d] = (number / TRACE_SPANS).to_be_bytes();
     Key {
-        trace: TraceId([1, 0, 0, 0, 0, 0, 0, 0, 0, 0, 0, 0, 0, 0, 0, 0]),
+        trace: TraceId([1, 0, 0, 0, 0, 0, 0, 0, 0, 0, 0, 0, 0, client, c, d]),
         span: SpanId([1, 0, 0, 0, 0, client, a, b]),
     }
 }
@@ -94,7 +98,7 @@ pub(crate) fn push(alloc: Global, client: u8, number: u16) -> Option<Request> {
     })
 }
 
-// A look-up of all that was pushed.
-pub(crate) fn ask() -> Request {
-    Request::Trace(key(0, 0).trace)
+// A look-up of the trace that a client's span with this number is of.
+pub(crate) fn ask(client: u8, number: u16) -> Request {
+    Request::Trace(key(client, number).trace)
 }

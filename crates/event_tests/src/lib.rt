@@ -9,3 +9,5 @@ mod events_tests;
 mod full_tests;
 #[cfg(test)]
 mod ingest_tests;
+#[cfg(test)]
+mod window_tests;

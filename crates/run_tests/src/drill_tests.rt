@@ -76,10 +76,9 @@ fn twice_the_same(rt: HostRuntime) {
 }
 
 #[test]
-fn two_thousand(rt: HostRuntime) {
+fn two_thousand_twice_the_same(rt: HostRuntime) {
     let (words, front) = LARGE;
-    let played = run_on_empty(&rt, words);
-    assert!(&rt; played.status == 0 && played.text.as_slice().starts_with(front.as_bytes()));
+    assert!(&rt; prints_twice(&rt, words, front));
 }
 
 #[test]

@@ -7,8 +7,9 @@
 //! - `page_tests`: how many pages look-ups and searches read.
 //! - `filled` has what they share: sessions of tables, in which short words stand for long texts.
 //! - `failing`, `stopping`: a session of which each call of the disk fails, or stops it, and what is there when the store
-//!   is opened again. `script` has its lines, and what is told of a store of so many pushes.
-//! - `serve_texts`, `serve_together`, `serve_orders`, `serve_gate`: one client and several. No clause says that their
+//!   is opened again. `script` has its lines, and what is told of a store of so many pushes. `failing_queries`: a page of a query
+//!   can't be read.
+//! - `serve_texts`, `serve_together`, `serve_orders`, `serve_gate`, `serve_faults`: one client and several. No clause says that their
 //!   threads come to an end, and in which order they are answered.
 #![tactic(auto)]
 
@@ -21,6 +22,8 @@ mod durable_tests;
 #[cfg(test)]
 mod failing;
 #[cfg(test)]
+mod failing_queries;
+#[cfg(test)]
 mod filled;
 #[cfg(test)]
 mod flush_tests;
@@ -30,6 +33,8 @@ mod page_tests;
 mod script;
 #[cfg(test)]
 mod series;
+#[cfg(test)]
+mod serve_faults;
 #[cfg(test)]
 mod serve_gate;
 #[cfg(test)]

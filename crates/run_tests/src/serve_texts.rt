@@ -117,6 +117,12 @@ const NO_SOURCE: Failing<'static> = Failing {
     sink: &[],
 };
 
+/// The second call of the source fails, after all lines were read.
+const SOURCE_ENDS: Failing<'static> = Failing {
+    source: &[2],
+    sink: &[],
+};
+
 /// The second call of the sink fails.
 const SINK_ENDS: Failing<'static> = Failing {
     source: &[],
@@ -128,6 +134,7 @@ fn a_failing_device_ends_the_run(rt: HostRuntime) {
     let words = ["serve", "--clients", "1"];
     let input = "0 push {}\n0 push {}\n";
     check(&rt, &words, input, NO_SOURCE, ("", 3));
+    check(&rt, &words, input, SOURCE_ENDS, ("", 3));
     let first = ("0 ok push 0 accepted=0 rejected=0 skipped=0\n", 1);
     check(&rt, &words, input, SINK_ENDS, first);
 }
