@@ -5,6 +5,7 @@ pub mod Seen
 mod QueryLaws
 mod RoundSteps
 mod Rounds
+mod Dropped
 mod RoundLaws
 mod RoundRoom
 mod FlushLaws

@@ -44,7 +44,7 @@ pub fn rounds_of_clients_have_their_causes()
         × (why ≡ Round cause)
         × IsRoundOf kind (front ++ call_of place.entry ∷ back) (IsRefused cause)
         × IsTurnedDown cause place.entry.reply
-        × HasCauseThere kind told cause place.before place.after }
+        × HasCauseThere kind told cause place.entry.event place.before place.after }
     // Told that there was nothing to do, its one call found that in a store that writes, with no job of its kind open.
     ensures nothing { (told : Bool) (first last : At) (scripts : List (List Item))
         (answers : List Answered) (entries : List Entry) (client : ℕ) (asked : List Item)
