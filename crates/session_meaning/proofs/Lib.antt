@@ -49,6 +49,8 @@ mod ServedCauses
 mod ServedRoom
 mod RoundCalls
 mod ServedRounds
+mod OpenJobs
+mod ServedJobs
 mod ServedQueries
 mod ServedWhole
 mod ServedFaults

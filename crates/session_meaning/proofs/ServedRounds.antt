@@ -527,7 +527,7 @@ served_with_room clients rounds s old new run well room =
 same_rows : (one other : FlushParts) → reply_of.Flushing one ≡ reply_of.Flushing other → one.rows ≡ other.rows
 same_rows one other e = let same : one ≡ other = cc in ap (λ (job : FlushParts). job.rows) same
 
-flushed_round : (rows : ℕ) (round : Round) → Flushed rows ≡ told_as Flushes round → (blocks : ℕ) × (round ≡ Did blocks rows)
+pub flushed_round : (rows : ℕ) (round : Round) → Flushed rows ≡ told_as Flushes round → (blocks : ℕ) × (round ≡ Did blocks rows)
 flushed_round rows (Did blocks n) e = (blocks, ap (λ (k : ℕ). Did blocks k) (same_flushed rows n e))
   where
     same_flushed : (a b : ℕ) → Flushed a ≡ Flushed b → b ≡ a
