@@ -1,5 +1,5 @@
 -- What a compaction does, and why it is refused.
-use Rattle.std.proofs.Common.{◌≡◌, inl, inr, ℕ, ◌+◌, ◌<◌, Bool, true, false, List, [], ◌∷◌, ◌++◌, Some, None, length, refl, sym, ◌∙◌, ap, subst}
+use Rattle.std.proofs.Common.{◌≡◌, ◌⊎◌, inl, inr, ℕ, ◌+◌, ◌<◌, Bool, true, false, List, [], ◌∷◌, ◌++◌, Some, None, length, refl, sym, ◌∙◌, ap, subst}
 use Rattle.std.proofs.lemmas.List.{length-map}
 use Rattle.span_types.specs.Faults.{Rose}
 use Rattle.span_types.specs.First.{IsFirstOf}
@@ -18,8 +18,8 @@ use Rattle.store_state.specs.declared.rounds.Refusal.TheVariants.{Busy, Fault, F
 use Rattle.store_state.specs.declared.rounds.Round.{Round}
 use Rattle.store_state.specs.declared.rounds.Round.TheVariants.{Did, Refused}
 use Rattle.session_meaning.specs.At.{At}
-use Rattle.session_meaning.specs.Causes.{HasCompactCause}
-use Rattle.session_meaning.specs.Rounds.{HasJoined, IsCompacted, IsDoneOrStarved, IsTold, Job}
+use Rattle.session_meaning.specs.Causes.{HasCompactCause, StoppedWriting}
+use Rattle.session_meaning.specs.Rounds.{HasDropped, HasJoined, IsCompacted, IsDoneOrStarved, IsTold, Job}
 use Rattle.session_meaning.specs.Rounds.{IsRound as round_of}
 use Rattle.session_meaning.specs.Upkeep.{IsClosed}
 use Rattle.session_meaning.proofs.RoundLaws.{Ending, HasBegun, HasFailed, IsRefusedFor, OfKind, has_begun, not_did, round_caused, same_files}
@@ -31,9 +31,9 @@ use Rattle.session_meaning.proofs.Steps.{rose_to}
 
 -- ---- why it is refused
 
-failed : (before after : At) → HasFailed BeginCompact before after → Rose before.faults after.faults
-failed before after (inl (n, rose, within, broke)) = rose_to before.faults n after.faults rose within
-failed before after (inr (joins, rose)) = rose
+failed : (before after : At) → HasFailed BeginCompact before after → Rose before.faults after.faults × (HasDropped before.machine after.machine ⊎ StoppedWriting before after)
+failed before after (inl (n, rose, within, broke)) = (rose_to before.faults n after.faults rose within, inr (n, rose, within, broke))
+failed before after (inr (joins, rose, dropped)) = (rose, inl dropped)
 
 untold : (told : Bool) → (told ≡ true → ⊥) → told ≡ false
 untold true none = absurd (none refl)

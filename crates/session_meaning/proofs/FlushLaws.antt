@@ -1,5 +1,5 @@
 -- What a flush does, and why it is refused.
-use Rattle.std.proofs.Common.{◌≡◌, inl, inr, ℕ, ◌<◌, ◌≤◌, List, Some, None, sym, ◌∙◌, ap, subst, take}
+use Rattle.std.proofs.Common.{◌≡◌, inl, inr, ℕ, ◌<◌, List, Some, None, sym, ◌∙◌, ap, subst, take}
 use Rattle.span_types.specs.Faults.{Rose}
 use Rattle.span_types.specs.First.{IsFirstOf}
 use Rattle.span_types.specs.declared.spans.Row.{Row}
@@ -17,7 +17,7 @@ use Rattle.store_state.specs.declared.rounds.Refusal.TheVariants.{Busy, Fault, F
 use Rattle.store_state.specs.declared.rounds.Round.{Round}
 use Rattle.store_state.specs.declared.rounds.Round.TheVariants.{Did, Refused}
 use Rattle.session_meaning.specs.At.{At}
-use Rattle.session_meaning.specs.Causes.{HasFlushCause}
+use Rattle.session_meaning.specs.Causes.{HasFlushCause, StoppedWriting}
 use Rattle.session_meaning.specs.Rounds.{HasListed, IsDoneOrStarved, IsFlushed, Job}
 use Rattle.session_meaning.specs.Rounds.{IsRound as round_of}
 use Rattle.session_meaning.specs.Upkeep.{IsClosed}
@@ -29,9 +29,9 @@ use Rattle.session_meaning.proofs.RoundSteps.IsBegin.{OfFlush}
 
 -- ---- why it is refused
 
-failed : (before after : At) → HasFailed BeginFlush before after → (n : ℕ) × Rose before.faults n × (n ≤ after.faults) × (after.machine.read_only ≡ Some n)
+failed : (before after : At) → HasFailed BeginFlush before after → StoppedWriting before after
 failed before after (inl writes) = writes
-failed before after (inr (joins, rose)) = let bad : ⊥ = cc in absurd bad
+failed before after (inr (joins, rose, dropped)) = let bad : ⊥ = cc in absurd bad
 
 caused_by : (before after : At) (w : Refusal) → IsRefusedFor BeginFlush w before after → HasFlushCause w before after
 caused_by before after Fault so = failed before after so

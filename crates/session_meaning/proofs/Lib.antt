@@ -5,6 +5,7 @@ pub mod Seen
 mod QueryLaws
 mod RoundSteps
 mod Rounds
+mod Dropped
 mod RoundLaws
 mod RoundRoom
 mod FlushLaws
@@ -48,6 +49,8 @@ mod ServedCauses
 mod ServedRoom
 mod RoundCalls
 mod ServedRounds
+mod OpenJobs
+mod ServedJobs
 mod ServedQueries
 mod ServedWhole
 mod ServedFaults

@@ -23,11 +23,12 @@ use Rattle.store_state.specs.declared.rounds.Refusal.TheVariants.{Busy, Fault, F
 use Rattle.store_state.specs.declared.rounds.Round.{Round}
 use Rattle.store_state.specs.declared.rounds.Round.TheVariants.{Did, Nothing, Refused}
 use Rattle.session_meaning.specs.At.{At, IsStep, IsStill, history_of}
-use Rattle.session_meaning.specs.Causes.{HasRoundCause}
-use Rattle.session_meaning.specs.Rounds.{IsEnded, IsGivenUpFor, IsRound, IsSized, IsWorkOf, Job, blocks_of, commit_of, drop_of, given}
+use Rattle.session_meaning.specs.Causes.{HasRoundCause, StoppedWriting}
+use Rattle.session_meaning.specs.Rounds.{HasDropped, IsEnded, IsGivenUpFor, IsRound, IsSized, IsWorkOf, Job, blocks_of, commit_of, drop_of, given}
 use Rattle.session_meaning.specs.Rounds.{IsEnded as ended, IsRound as round_of}
 use Rattle.session_meaning.specs.Rounds.Job.{OfBlocks, OfRows}
 use Rattle.session_meaning.specs.Upkeep.{HasNoJob, IsClosed}
+use Rattle.session_meaning.proofs.Dropped.{dropped_after}
 use Rattle.session_meaning.proofs.Rounds.{Writes, begun_writes, still_writes}
 use Rattle.session_meaning.proofs.RoundSteps.{BeginCause, IsBegin, IsFree, begun, commits, dropped, drops, idle, not_begun, open_job, work, write_broke, write_done}
 use Rattle.session_meaning.proofs.RoundSteps.IsBegin.{OfCompaction, OfFlush}
@@ -273,10 +274,9 @@ pub none_open : (begins : event) → IsBegin begins → (m : Machine) → HasNoJ
 none_open begins OfFlush m none = ap (option_map (λ (job : Flush). job.number)) none.flush
 none_open begins OfCompaction m none = ap (option_map (λ (job : Compaction). job.number)) none.compaction
 
--- a write failed in it, so that the store writes no more, or in a compaction a read
+-- a write failed in it, so that the store writes no more, or in a compaction a read, and the job was dropped
 abbrev pub HasFailed : event → At → At → Type 0
-HasFailed begins before after =
-    ((n : ℕ) × Rose before.faults n × (n ≤ after.faults) × (after.machine.read_only ≡ Some n)) ⊎ ((begins ≡ BeginCompact) × Rose before.faults after.faults)
+HasFailed begins before after = StoppedWriting before after ⊎ ((begins ≡ BeginCompact) × Rose before.faults after.faults × HasDropped before.machine after.machine)
 
 abbrev pub IsRefusedFor : event → Refusal → At → At → Type 0
 IsRefusedFor begins Fault before after = HasFailed begins before after
@@ -325,9 +325,10 @@ given_up_for begins job m m' before after Fault same (Blocks its) done for = abs
 pub not_did : (w : Refusal) (a b : ℕ) → Did a b ≡ Refused w → ⊥
 not_did w a b e = cc
 
-joins_only : (begins : event) (job : Job) → OfKind begins job → IsJoining job → begins ≡ BeginCompact
-joins_only begins job (Rows its) joins = absurd joins
-joins_only begins job (Blocks its) joins = refl
+misread : (begins : event) (job : Job) (m at m' : Machine) → OfKind begins job → IsJoining job → IsFree begins m → Happens m begins (given job) at → Happens at (drop_of job) Fine m'
+    → (begins ≡ BeginCompact) × HasDropped m m'
+misread begins job m at m' (Rows its) joins free done gone = absurd joins
+misread begins job m at m' (Blocks its) joins free done gone = (refl, dropped_after its.number done.0 m at m' free done.1 done.3 gone)
 
 job_caused : (begins : event) (before : At) (job : Job) (after : At) (w : Refusal) → (has : HasBegun begins before job (Refused w) after) → Ending job has.begun_at (Refused w) after
     → IsRefusedFor begins w before after
@@ -336,8 +337,9 @@ job_caused begins before job after w has (Breaks n rose within broke is) =
     subst (λ (x : Refusal). IsRefusedFor begins x before after) (sym (same_why w Fault is))
     (inl (n, rose_from before.faults has.begun_at.faults n has.earlier rose, within, broke))
 job_caused begins before job after w has (Misreads joins rose gone is) =
+    let left = misread begins job before.machine has.begun_at.machine after.machine has.kind joins has.is_free has.happened gone in
     subst (λ (x : Refusal). IsRefusedFor begins x before after) (sym (same_why w Fault is))
-    (inr (joins_only begins job has.kind joins, rose_from before.faults has.begun_at.faults after.faults has.earlier rose))
+    (inr (left.0, rose_from before.faults has.begun_at.faults after.faults has.earlier rose, left.1))
 job_caused begins before job after w has (GivesUp v for gone is) =
     subst (λ (x : Refusal). IsRefusedFor begins x before after) (sym (same_why w v is))
     (given_up_for begins job before.machine has.begun_at.machine before after v refl has.kind has.happened for)

@@ -68,7 +68,7 @@ commits at calls ended (joins.unlisted job size why) = tt
 commits at calls ended (joins.dropped number why) = tt
 commits at calls ended (joins.over last) = tt
 
-did_of : (blocks rows : ℕ) (ended : Round) → Compacted blocks rows ≡ compact_reply ended → ended ≡ Did blocks rows
+pub did_of : (blocks rows : ℕ) (ended : Round) → Compacted blocks rows ≡ compact_reply ended → ended ≡ Did blocks rows
 did_of blocks rows (Did b r) e = cc
 did_of blocks rows Nothing e = let bad : ⊥ = cc in absurd bad
 did_of blocks rows (Refused why) e = let bad : ⊥ = cc in absurd bad

@@ -115,6 +115,47 @@ is_the_one seat client is = sym (eqb-true client seat (or_false (client == seat)
     or_false true = refl
     or_false false = refl
 
+-- One that goes on from where another ends.
+led_on : (told : Bool) (first between last : At) (es later : List Entry) → EntriesLead told first es between → EntriesLead told between later last → EntriesLead told first (es ++ later) last
+led_on told first between last [] later same rest = subst (λ (at : At). EntriesLead told at later last) same rest
+led_on told first between last (e ∷ es) later (next, made, lead) rest = (next, made, led_on told next between last es later lead rest)
+
+-- A call of a client that came before another one of its own, and the calls in between.
+pub record EarlierPlace (told : Bool) (first : At) (entries : List Entry) (last : At) (client : ℕ) (asked : List Item) (got : List Reply) (front : List Call) (c : Call) (earlier : List Entry) (to : At) : Type 0 where
+  pub place : CallPlace told first entries last client asked got front
+  pub call : call_of place.entry ≡ c
+  pub between : List Entry
+  pub is_earlier : earlier ≡ place.earlier ++ place.entry ∷ between
+  pub leads : EntriesLead told place.after between to
+
+pub earlier_place : (told : Bool) (first last : At) (entries : List Entry) (client : ℕ) (asked : List Item) (got : List Reply) (front back : List Call) (c : Call)
+    → (place : CallPlace told first entries last client asked got (front ++ c ∷ back)) → EarlierPlace told first entries last client asked got front c place.earlier place.before
+earlier_place told first last entries client asked got front back c place =
+    let found = split (client ∷ []) place.earlier (place.answers ++ front) back c (place.own_before ∙ sym (append_assoc place.answers front (c ∷ back))) in
+    let at = led_to told first place.before found.earlier found.entry found.later (subst (λ (es : List Entry). EntriesLead told first es place.before) found.is place.to) in record {
+      place = record {
+        earlier = found.earlier;
+        entry = found.entry;
+        later = found.later ++ place.entry ∷ place.later;
+        entries_are =
+            place.entries_are ∙ ap (λ (es : List Entry). es ++ place.entry ∷ place.later) found.is
+            ∙ append_assoc found.earlier (found.entry ∷ found.later) (place.entry ∷ place.later);
+        its = is_the_one found.entry.seat client found.inside;
+        answers = place.answers;
+        asked_before = place.asked_before;
+        own_before = found.before;
+        before = at.before;
+        after = at.after;
+        to = at.to;
+        made = at.made;
+        from = led_on told at.after place.before last found.later (place.entry ∷ place.later) at.from (place.after, place.made, place.from);
+      };
+      call = found.call;
+      between = found.later;
+      is_earlier = found.is;
+      leads = at.from;
+    }
+
 -- ---- a reply and its calls
 
 pub as_item : (item : Item) (r : Reply) (calls : List Call) → by_script.IsItemAnswered item r calls → IsItemAnswered item r calls

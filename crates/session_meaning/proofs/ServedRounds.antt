@@ -20,7 +20,7 @@ use Rattle.store_model.specs.Event.{FlushParts, Event as event, Reply as reply_o
 use Rattle.store_model.specs.Event.Event.{BeginCompact, BeginFlush, ReadPage}
 use Rattle.store_model.specs.History.{count_of}
 use Rattle.store_model.specs.State.{Block, State, block_files}
-use Rattle.store_model.specs.Step.{Happens, Machine, Step}
+use Rattle.store_model.specs.Step.{Happens, Machine, Step, broken}
 use Rattle.store_state.specs.Made.{Call, call}
 use Rattle.store_state.specs.Replies.{begin_refusal, write_refusal}
 use Rattle.store_state.specs.Rounds.{begin_cause, write_cause}
@@ -38,7 +38,7 @@ use Rattle.session_meaning.specs.At.{At, IsStep, IsStill, history_of}
 use Rattle.session_meaning.specs.Rounds.{IsDoneOrStarved, IsGivenUpFor, IsSized, Job, blocks_of, given}
 use Rattle.session_meaning.specs.Runs.{Edges, ReadsWell}
 use Rattle.session_meaning.specs.ServedReplies.{CallPlace, HasItsPart, WasReplied}
-use Rattle.session_meaning.specs.ServedRounds.{HasCauseThere, HasItsRoom, HasRoomForRound, IsDecided, IsFreeFor, IsRoundOf, IsTurnedDown, Kind, asked_for, begin_of, job_open, told_as, work_for}
+use Rattle.session_meaning.specs.ServedRounds.{FailsAt, HasCauseThere, HasItsRoom, HasRoomForRound, IsDecided, IsFreeFor, IsRoundOf, IsTurnedDown, Kind, asked_for, begin_of, job_open, told_as, work_for}
 use Rattle.session_meaning.specs.ServedRounds.Kind.{Flushes, Joins}
 use Rattle.session_meaning.specs.ServedRounds.IsDecided.{busy, idle, spent, stopped}
 use Rattle.session_meaning.specs.ServedRuns.{IsServedRun, Served}
@@ -52,9 +52,10 @@ use Rattle.session_meaning.proofs.RoundLaws.{OfKind, chosen_listed, kind_of, sam
 use Rattle.session_meaning.proofs.RoundLaws.OfKind.{Blocks, Rows}
 use Rattle.session_meaning.proofs.RoundSteps.{BeginCause, IsBegin, IsWrite, begin_busy, begin_idle, begin_spent, begin_stopped, begun, idle as found_idle, not_begun, open_job, work, write_halted, write_stopped}
 use Rattle.session_meaning.proofs.RoundSteps.IsBegin.{OfCompaction, OfFlush}
+use Rattle.session_meaning.proofs.RoundSteps.IsWrite.{OfCompactCommit, OfFlushCommit, OfPiece}
 use Rattle.session_meaning.proofs.ServedPlaces.{is_answered, mine, place_of}
 use Rattle.session_meaning.proofs.ServedRoom.{in_all, rose_there, serving_well, writes_there}
-use Rattle.session_meaning.proofs.Steps.{read_rose}
+use Rattle.session_meaning.proofs.Steps.{read_rose, read_still}
 
 -- ---- kinds
 
@@ -118,48 +119,58 @@ begin_down begin.Fault = refl
 begin_down begin.Memory = tt
 
 begin_caused : (kind : Kind) (told : Bool) (before after : At) (b : BeginError)
-    → BeginCause (begin_of kind) (is_begin kind) before.faults after.faults before.machine after.machine (begin_refusal b) → HasCauseThere kind told (begin_cause b) before after
+    → BeginCause (begin_of kind) (is_begin kind) before.faults after.faults before.machine after.machine (begin_refusal b)
+    → HasCauseThere kind told (begin_cause b) (begin_of kind) before after
 begin_caused Flushes told before after (begin.ReadOnly faults) c = c.0
 begin_caused Flushes told before after (begin.Busy job) c = (c.0, c.1)
 begin_caused Flushes told before after (begin.FilesSpent next) c = (c.0, c.1, c.2)
-begin_caused Flushes told before after begin.Fault c = (after.faults, c.1, omega arith, ap (λ (m : Machine). m.read_only) c.2)
+begin_caused Flushes told before after begin.Fault c = (c.1, c.2)
 begin_caused Flushes told before after begin.Memory c = tt
 begin_caused Joins told before after (begin.ReadOnly faults) c = c.0
 begin_caused Joins told before after (begin.Busy job) c = (c.0, c.1)
 begin_caused Joins told before after (begin.FilesSpent next) c = (c.0, c.1, c.2)
-begin_caused Joins told before after begin.Fault c = c.1
+begin_caused Joins told before after begin.Fault c = (c.1, c.2)
 begin_caused Joins told before after begin.Memory c = tt
 
 write_down : (w : WriteError) → IsTurnedDown (write_cause w) (reply_of.Refused (write_refusal w))
 write_down (write.ReadOnly faults) = refl
 write_down write.Fault = refl
 
-write_caused : (kind : Kind) (told : Bool) (before after : At) (e : event) → IsWrite e → (w : WriteError)
-    → Step before.faults after.faults before.machine e (reply_of.Refused (write_refusal w)) after.machine → HasCauseThere kind told (write_cause w) before after
-write_caused Flushes told before after e is (write.ReadOnly faults) step = write_stopped e is before.faults after.faults before.machine after.machine faults step
-write_caused Flushes told before after e is write.Fault step =
-    let broke = write_halted e is before.faults after.faults before.machine after.machine step in
-    (after.faults, broke.0, omega arith, ap (λ (m : Machine). m.read_only) broke.1)
-write_caused Joins told before after e is (write.ReadOnly faults) step = write_stopped e is before.faults after.faults before.machine after.machine faults step
-write_caused Joins told before after e is write.Fault step = (write_halted e is before.faults after.faults before.machine after.machine step).0
+-- A write that the disk failed leaves a store that writes no more.
+write_fails : (e : event) → IsWrite e → (before after : At) → Rose before.faults after.faults × (after.machine ≡ broken after.faults before.machine) → FailsAt e before after
+write_fails e (OfPiece number file bytes) before after broke = broke
+write_fails e (OfFlushCommit number size) before after broke = broke
+write_fails e (OfCompactCommit number size) before after broke = broke
 
--- a read is one of a compaction
-read_caused : (kind : Kind) (told : Bool) (before after : At) → begin_of kind ≡ BeginCompact → Rose before.faults after.faults → HasCauseThere kind told cause.Fault before after
-read_caused Flushes told before after joins rose = let bad : ⊥ = cc in absurd bad
-read_caused Joins told before after joins rose = rose
+write_caused : (kind : Kind) (told : Bool) (before after : At) (e : event) → IsWrite e → (w : WriteError)
+    → Step before.faults after.faults before.machine e (reply_of.Refused (write_refusal w)) after.machine → HasCauseThere kind told (write_cause w) e before after
+write_caused Flushes told before after e is (write.ReadOnly faults) step = write_stopped e is before.faults after.faults before.machine after.machine faults step
+write_caused Flushes told before after e is write.Fault step = write_fails e is before after (write_halted e is before.faults after.faults before.machine after.machine step)
+write_caused Joins told before after e is (write.ReadOnly faults) step = write_stopped e is before.faults after.faults before.machine after.machine faults step
+write_caused Joins told before after e is write.Fault step = write_fails e is before after (write_halted e is before.faults after.faults before.machine after.machine step)
+
+-- a read is one of a compaction, and leaves the store as it was
+read_caused : (kind : Kind) (told : Bool) (before after : At) (pin file page : ℕ) → begin_of kind ≡ BeginCompact
+    → Step before.faults after.faults before.machine (ReadPage pin file page) (reply_of.Refused refusal.Fault) after.machine
+    → HasCauseThere kind told cause.Fault (ReadPage pin file page) before after
+read_caused Flushes told before after pin file page joins step = let bad : ⊥ = cc in absurd bad
+read_caused Joins told before after pin file page joins step = (
+  read_rose before.faults after.faults before.machine after.machine pin file page step,
+  read_still before.faults after.faults before.machine after.machine pin file page (reply_of.Refused refusal.Fault) step,
+)
 
 failed_caused : (kind : Kind) (told : Bool) (before after : At) (x : Call) (c : Cause) → FailedBy (begin_of kind) x c → IsStep before x.event x.reply after
-    → IsTurnedDown c x.reply × HasCauseThere kind told c before after
+    → IsTurnedDown c x.reply × HasCauseThere kind told c x.event before after
 failed_caused kind told before after x c (ByWrite is w answered because) step =
     let s : Step before.faults after.faults before.machine x.event (reply_of.Refused (write_refusal w)) after.machine =
     subst (λ (r : reply_of). Step before.faults after.faults before.machine x.event r after.machine) answered step.1 in
-    subst (λ (k : Cause). IsTurnedDown k x.reply × HasCauseThere kind told k before after) (sym because)
+    subst (λ (k : Cause). IsTurnedDown k x.reply × HasCauseThere kind told k x.event before after) (sym because)
     (subst (λ (r : reply_of). IsTurnedDown (write_cause w) r) (sym answered) (write_down w), write_caused kind told before after x.event is w s)
 failed_caused kind told before after x c (ByRead joins pin file page is because) step =
     let s : IsStep before (ReadPage pin file page) (reply_of.Refused refusal.Fault) after = subst (λ (y : Call). IsStep before y.event y.reply after) is step in
-    subst (λ (k : Cause). IsTurnedDown k x.reply × HasCauseThere kind told k before after) (sym because) (
+    subst (λ (k : Cause). IsTurnedDown k x.reply × HasCauseThere kind told k x.event before after) (sym because) (
       ap (λ (y : Call). y.reply) is,
-      read_caused kind told before after joins (read_rose before.faults after.faults before.machine after.machine pin file page s.1),
+      subst (λ (y : Call). HasCauseThere kind told cause.Fault y.event before after) (sym is) (read_caused kind told before after pin file page joins s.1),
     )
 
 -- Where what the blocks hold is told, none is found to be none.
@@ -171,7 +182,8 @@ untold : (told : Bool) → (told ≡ true → ⊥) → told ≡ false
 untold true none = absurd (none refl)
 untold false none = refl
 
-flush_given_up : (told : Bool) (before after : At) (job : Job) (c : Cause) → OfKind BeginFlush job → IsGivenUpFor job c → IsTurnedDown c (given job) × HasCauseThere Flushes told c before after
+flush_given_up : (told : Bool) (before after : At) (job : Job) (c : Cause) → OfKind BeginFlush job → IsGivenUpFor job c
+    → IsTurnedDown c (given job) × HasCauseThere Flushes told c BeginFlush before after
 flush_given_up told before after job cause.Memory kind for = (tt, tt)
 flush_given_up told before after job (cause.NotBlock file at) (Rows its) for = absurd for
 flush_given_up told before after job (cause.ReadOnly faults) (Rows its) for = absurd for
@@ -180,7 +192,7 @@ flush_given_up told before after job (cause.FilesSpent next) (Rows its) for = ab
 flush_given_up told before after job cause.Fault (Rows its) for = absurd for
 
 joins_given_up : (told : Bool) (before after : At) (job : Job) (c : Cause) → OfKind BeginCompact job → Happens before.machine BeginCompact (given job) after.machine → IsGivenUpFor job c
-    → (told ≡ true → FoundBlocks (IsRefused c)) → IsTurnedDown c (given job) × HasCauseThere Joins told c before after
+    → (told ≡ true → FoundBlocks (IsRefused c)) → IsTurnedDown c (given job) × HasCauseThere Joins told c BeginCompact before after
 joins_given_up told before after job cause.Memory kind done for finds = (tt, tt)
 joins_given_up told before after job (cause.NotBlock file at) (Blocks its) done for finds =
     (tt, (untold told finds, chosen_listed before.machine after.machine its done file for))
@@ -190,7 +202,7 @@ joins_given_up told before after job (cause.FilesSpent next) (Blocks its) done f
 joins_given_up told before after job cause.Fault (Blocks its) done for finds = absurd for
 
 given_caused : (kind : Kind) (told : Bool) (before after : At) (job : Job) (c : Cause) → Happens before.machine (begin_of kind) (given job) after.machine → IsGivenUpFor job c
-    → (told ≡ true → Finds kind c) → IsTurnedDown c (given job) × HasCauseThere kind told c before after
+    → (told ≡ true → Finds kind c) → IsTurnedDown c (given job) × HasCauseThere kind told c (begin_of kind) before after
 given_caused Flushes told before after job c done for finds = flush_given_up told before after job c (kind_of BeginFlush OfFlush before.machine after.machine job done) for
 given_caused Joins told before after job c done for finds = joins_given_up told before after job c (kind_of BeginCompact OfCompaction before.machine after.machine job done) done for finds
 
@@ -286,7 +298,7 @@ module _ (told : Bool) (first last : At) (scripts : List (List Item)) (answers :
   Blamed c =
       (front back : List Call) × (place : CallPlace told first entries last client asked got front)
       × IsRoundOf kind (front ++ call_of place.entry ∷ back) (IsRefused c) × IsTurnedDown c place.entry.reply
-      × HasCauseThere kind told c place.before place.after
+      × HasCauseThere kind told c place.entry.event place.before place.after
 
   finds_there : (why : Refusal) (c : Cause) → Ran told first scripts answers entries last → WasReplied scripts answers client asked got (Ok (asked_for kind)) (Refused why) → why ≡ RoundOf c
       → told ≡ true → Finds kind c
@@ -315,7 +327,7 @@ module _ (told : Bool) (first last : At) (scripts : List (List Item)) (answers :
         (place.0, place.1, subst (λ (y : Call). IsStep place.0.before y.event y.reply place.0.after) place.1 place.0.made.step)
 
     blamed_at : (c : Cause) (front back : List Call) (x : Call) → its ≡ front ++ x ∷ back → IsRoundOf kind its (IsRefused c)
-        → ((before after : At) → IsStep before x.event x.reply after → IsTurnedDown c x.reply × HasCauseThere kind told c before after) → Blamed c
+        → ((before after : At) → IsStep before x.event x.reply after → IsTurnedDown c x.reply × HasCauseThere kind told c x.event before after) → Blamed c
     blamed_at c front back x are leads says =
         let at = place_at front back x are in
         let holds = says at.0.before at.0.after at.2 in (
@@ -324,14 +336,14 @@ module _ (told : Bool) (first last : At) (scripts : List (List Item)) (answers :
           at.0,
           subst (λ (cs : List Call). IsRoundOf kind cs (IsRefused c)) (are ∙ ap (λ (y : Call). front ++ y ∷ back) (sym at.1)) leads,
           subst (λ (y : Call). IsTurnedDown c y.reply) (sym at.1) holds.0,
-          holds.1,
+          subst (λ (y : Call). HasCauseThere kind told c y.event at.0.before at.0.after) (sym at.1) holds.1,
         )
 
     by_begin : (c : Cause) → IsRoundOf kind its (IsRefused c) → (told ≡ true → Finds kind c) → BeginsSo (begin_of kind) its (IsRefused c) → Blamed c
     by_begin c leads finds (FoundNone are is) = absurd (not_nothing c is)
     by_begin c leads finds (NotBegun b are is) =
         blamed_at c [] [] (call (begin_of kind) (reply_of.Refused (begin_refusal b))) are leads (λ before after step.
-        subst (λ (k : Cause). IsTurnedDown k (reply_of.Refused (begin_refusal b)) × HasCauseThere kind told k before after) (sym (same_cause c (begin_cause b) is)) (
+        subst (λ (k : Cause). IsTurnedDown k (reply_of.Refused (begin_refusal b)) × HasCauseThere kind told k (begin_of kind) before after) (sym (same_cause c (begin_cause b) is)) (
           begin_down b,
           begin_caused kind told before after b
               (not_begun (begin_of kind) (is_begin kind) before.faults after.faults before.machine after.machine (begin_refusal b) step.1),
@@ -446,7 +458,8 @@ module _ (told : Bool) (first last : At) (scripts : List (List Item)) (answers :
 pub refused_there : (told : Bool) (first last : At) (scripts : List (List Item)) (answers : List Answered) (entries : List Entry) (client : ℕ) (asked : List Item) (got : List Reply) (kind : Kind)
     (why : Refusal) → Ran told first scripts answers entries last → WasReplied scripts answers client asked got (Ok (asked_for kind)) (Refused why)
     → (c : Cause) × (front back : List Call) × (place : CallPlace told first entries last client asked got front) × (why ≡ RoundOf c)
-    × IsRoundOf kind (front ++ call_of place.entry ∷ back) (IsRefused c) × IsTurnedDown c place.entry.reply × HasCauseThere kind told c place.before place.after
+    × IsRoundOf kind (front ++ call_of place.entry ∷ back) (IsRefused c) × IsTurnedDown c place.entry.reply
+    × HasCauseThere kind told c place.entry.event place.before place.after
 refused_there told first last scripts answers entries client asked got kind why ran this =
     let calls = mine told first last scripts answers entries client asked got (Ok (asked_for kind)) (Refused why) ran this in
     let came = how told first last scripts answers entries client asked got kind (Refused why) ran this in
@@ -514,7 +527,7 @@ served_with_room clients rounds s old new run well room =
 same_rows : (one other : FlushParts) → reply_of.Flushing one ≡ reply_of.Flushing other → one.rows ≡ other.rows
 same_rows one other e = let same : one ≡ other = cc in ap (λ (job : FlushParts). job.rows) same
 
-flushed_round : (rows : ℕ) (round : Round) → Flushed rows ≡ told_as Flushes round → (blocks : ℕ) × (round ≡ Did blocks rows)
+pub flushed_round : (rows : ℕ) (round : Round) → Flushed rows ≡ told_as Flushes round → (blocks : ℕ) × (round ≡ Did blocks rows)
 flushed_round rows (Did blocks n) e = (blocks, ap (λ (k : ℕ). Did blocks k) (same_flushed rows n e))
   where
     same_flushed : (a b : ℕ) → Flushed a ≡ Flushed b → b ≡ a

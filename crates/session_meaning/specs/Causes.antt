@@ -1,5 +1,5 @@
 -- Why a push, a round, the emptying of loose files or a query is refused.
-use Rattle.std.specs.Prelude.{Bool, true, false, ◌≡◌, ⊤, ℕ, ◌+◌, ◌<◌, ◌≤◌, List, [], ◌∷◌, Some, Ok, Err, if◌then◌else◌, length}
+use Rattle.std.specs.Prelude.{Bool, true, false, ◌≡◌, ◌⊎◌, ⊤, ℕ, ◌+◌, ◌<◌, ◌≤◌, List, [], ◌∷◌, Some, Ok, Err, if◌then◌else◌, length}
 use Rattle.span_types.specs.Faults.{Rose}
 use Rattle.session_text.specs.declared.refusal.Refusal.{Refusal}
 use Rattle.session_text.specs.declared.refusal.Refusal.TheVariants.{DiskFault, LiveFull, Memory, ReadOnly, Round, StoreFull}
@@ -14,6 +14,7 @@ use Rattle.store_state.specs.declared.rounds.Refusal.TheVariants as cause
 use Rattle.session_meaning.specs.Act.{Act}
 use Rattle.session_meaning.specs.Act.Act.{Ask}
 use Rattle.session_meaning.specs.At.{At, history_of}
+use Rattle.session_meaning.specs.Rounds.{HasDropped}
 
 -- The refusal is the text `disk-fault`: a call of the disk failed.
 abbrev pub is_disk_fault : Refusal → Bool
@@ -64,17 +65,22 @@ HasRoundCause work (cause.FilesSpent next) before = (1 ≤ work) × (next ≡ be
 HasRoundCause work cause.Memory before = ⊤
 HasRoundCause work _ before = ⊥
 
+-- A call that writes failed, and from then on the store writes no more: it tells the disk's count of faults just after that call.
+abbrev pub StoppedWriting : At → At → Type 0
+StoppedWriting before after = (n : ℕ) × Rose before.faults n × (n ≤ after.faults) × (after.machine.read_only ≡ Some n)
+
 -- A flush is refused for this only where that holds: a call of the disk failed in it, so that the store writes no more; or it is the
 -- cause of a round that has the rows to flush which wait in the head.
 abbrev pub HasFlushCause : Cause → At → At → Type 0
-HasFlushCause cause.Fault before after =
-    (n : ℕ) × Rose before.faults n × (n ≤ after.faults) × (after.machine.read_only ≡ Some n)
+HasFlushCause cause.Fault before after = StoppedWriting before after
 HasFlushCause why before after = HasRoundCause (length before.machine.state.head) why before
 
--- A compaction is refused for this only where that holds: a call of the disk failed in it; a listed block is found to be none, and what
--- the blocks hold isn't told; or it is the cause of a round that has the blocks to join which fit together. `told` says that it is told.
+-- A compaction is refused for this only where that holds: a call of the disk failed in it, and if that was a page read, then its job was
+-- dropped and the store writes still, else the store writes no more; a listed block is found to be none, and what the blocks hold isn't
+-- told; or it is the cause of a round that has the blocks to join which fit together. `told` says that it is told.
 abbrev pub HasCompactCause : Bool → Cause → At → At → Type 0
-HasCompactCause told cause.Fault before after = Rose before.faults after.faults
+HasCompactCause told cause.Fault before after =
+    Rose before.faults after.faults × (HasDropped before.machine after.machine ⊎ StoppedWriting before after)
 HasCompactCause told (cause.NotBlock file at) before after =
     (told ≡ false) × (is_among file (block_files before.machine.state.blocks) ≡ true)
 HasCompactCause told why before after = HasRoundCause (length (choice before.machine.state.blocks)) why before

@@ -25,5 +25,6 @@ pub mod ServedRuns
 pub mod Progress
 pub mod ServedReplies
 pub mod ServedRounds
+pub mod ServedJobs
 pub mod ServedWhole
 pub mod ServedFaults

@@ -1,8 +1,8 @@
 -- What a flush and a compaction make of the store.
-use Rattle.std.specs.Prelude.{◌≡◌, ⊤, ℕ, ◌≤◌, Bool, true, List, length, take}
+use Rattle.std.specs.Prelude.{◌≡◌, ⊤, ℕ, ◌+◌, ◌≤◌, Bool, true, List, [], ◌∷◌, ◌++◌, None, length, take}
 use Rattle.span_types.specs.First.{IsFirstOf}
 use Rattle.span_types.specs.declared.spans.Row.{Row}
-use Rattle.store_model.specs.After.{after_begin_compact, after_begin_flush, after_commit_compact, after_commit_flush, chosen_job, taken}
+use Rattle.store_model.specs.After.{after_begin_compact, after_begin_flush, after_commit_compact, after_commit_flush, after_drop_compact, chosen_job, taken}
 use Rattle.store_model.specs.Choice.{choice, in_files, most_rows}
 use Rattle.store_model.specs.Event.{FlushParts, CompactParts}
 use Rattle.store_model.specs.Event.{Event as event, Reply as reply, Refusal as refusal}
@@ -133,6 +133,21 @@ pub record HasJoined (told : Bool) (m : Machine) (blocks count : ℕ) (m' : Mach
   pub of_blocks : IsFirstOf (block_rows (in_files (block_files (choice m.state.blocks)) m.state.blocks)) rows
   pub counted : told ≡ true → count ≡ length rows
   pub leaves : m' ≡ with_state (after_commit_compact (chosen_job pin m.state) count rows (after_begin_compact pin m.state)) m
+
+-- What a compaction left that began a job and dropped it, while the store went on writing: there were blocks to be joined, and the store is
+-- as after that begin and that drop. So nothing of it changed but that one more job was begun, and that the job's file, the next one, is
+-- loose.
+pub record HasDropped (m m' : Machine) : Type 0 where
+  pub writes : m.read_only ≡ None
+  pub some : 1 ≤ length (choice m.state.blocks)
+  pub pin : ℕ
+  pub is_free : IsFreeNumber pin m.state.pins
+  pub drops : m' ≡ with_state (after_drop_compact (chosen_job pin m.state) (after_begin_compact pin m.state)) m
+  pub leaves : m' ≡ with_state (record m.state {
+    loose = m.state.loose ++ m.state.next_file ∷ [];
+    next_file = m.state.next_file + 1;
+    begun = m.state.begun + 1;
+  }) m
 
 -- It was done, or there was nothing to do, or memory ran out.
 abbrev pub IsDoneOrStarved : Round → Type 0

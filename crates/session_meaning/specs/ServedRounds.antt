@@ -9,12 +9,13 @@ use Rattle.session_text.specs.declared.reply.Reply.{Reply}
 use Rattle.session_text.specs.declared.request.Request.{Request}
 use Rattle.session_text.specs.declared.request.Request.TheVariants as request
 use Rattle.session_text.specs.Items.{Item}
+use Rattle.span_types.specs.Faults.{Rose}
 use Rattle.store_model.specs.Choice.{choice}
 use Rattle.store_model.specs.Event.{Event as event, Reply as reply, Refusal as refusal}
-use Rattle.store_model.specs.Event.Event.{BeginCompact, BeginFlush}
+use Rattle.store_model.specs.Event.Event.{BeginCompact, BeginFlush, ReadPage}
 use Rattle.store_model.specs.Event.Reply.{Refused as IsRefused}
 use Rattle.store_model.specs.State.{Compaction, Flush, State}
-use Rattle.store_model.specs.Step.{Machine}
+use Rattle.store_model.specs.Step.{Machine, broken}
 use Rattle.store_state.specs.Made.{Call}
 use Rattle.store_state.specs.declared.rounds.Refusal.{Refusal as Cause}
 use Rattle.store_state.specs.declared.rounds.Refusal.TheVariants as cause
@@ -71,13 +72,21 @@ IsTurnedDown (cause.FilesSpent next) r = r ≡ IsRefused (refusal.FilesSpent nex
 IsTurnedDown cause.Fault r = r ≡ IsRefused refusal.Fault
 IsTurnedDown _ r = ⊤
 
--- It is refused for this only where that holds just before and just after one of its calls: in a store that writes a job of its kind is
--- open, whose number is told; or the cause is one that a session has too. `told` says that what the blocks hold is told.
-abbrev pub HasCauseThere : Kind → Bool → Cause → At → At → Type 0
-HasCauseThere kind told (cause.Busy number) before after =
+-- The disk failed in this call of a round. A page read leaves the store as it was. Any other call that fails so writes, and leaves all
+-- else of the store as it was, but it writes no more, and tells the disk's count of faults after this call.
+abbrev pub FailsAt : event → At → At → Type 0
+FailsAt (ReadPage pin file page) before after = Rose before.faults after.faults × (after.machine ≡ before.machine)
+FailsAt _ before after = Rose before.faults after.faults × (after.machine ≡ broken after.faults before.machine)
+
+-- It is refused for this only where that holds just before and just after one of its calls, which is this one: in a store that writes a
+-- job of its kind is open, whose number is told; the disk failed in it; or the cause is one that a session has too. `told` says that what
+-- the blocks hold is told.
+abbrev pub HasCauseThere : Kind → Bool → Cause → event → At → At → Type 0
+HasCauseThere kind told (cause.Busy number) e before after =
     (before.machine.read_only ≡ None) × (job_open kind before.machine.state ≡ Some number)
-HasCauseThere Flushes told why before after = HasFlushCause why before after
-HasCauseThere Joins told why before after = HasCompactCause told why before after
+HasCauseThere kind told cause.Fault e before after = FailsAt e before after
+HasCauseThere Flushes told why e before after = HasFlushCause why before after
+HasCauseThere Joins told why e before after = HasCompactCause told why before after
 
 -- ---- what decides
 

@@ -38,4 +38,7 @@ pub use serving_laws::{
     what_has_room_is_done_among_clients, what_was_seen_counts,
 };
 pub use serving_replies::{each_item_has_its_reply, queries_of_clients_have_their_causes};
-pub use serving_rounds::{rounds_of_clients_are_counted, rounds_of_clients_have_their_causes};
+pub use serving_rounds::{
+    rounds_of_clients_are_counted, rounds_of_clients_have_their_causes,
+    rounds_of_clients_list_their_blocks,
+};

@@ -2,8 +2,10 @@
 //!
 //! Each function has an empty body: its contract is the statement, and its proof stands in `proofs/serving_rounds/`.
 
-ghost use Rattle.std.specs.Prelude.{Bool, true, false, ◌≡◌, ◌⊎◌, [], ◌∷◌, ◌++◌, List, None, Ok, length, take, ℕ};
+ghost use Rattle.std.specs.Prelude.{Bool, true, false, ◌≡◌, ◌⊎◌, ◌+◌, [], ◌∷◌, ◌++◌, List, None, Ok, length, take, ℕ};
 ghost use Rattle.client_scripts.specs.declared.script.Answered.{Answered};
+ghost use Rattle.compactor.specs.Rounds.{IsCompactRound};
+ghost use Rattle.flusher.specs.Rounds.{IsFlushRound};
 ghost use Rattle.port_history.specs.Entries.{Entry, call_of};
 ghost use Rattle.session_text.specs.declared.refusal.Refusal.{Refusal};
 ghost use Rattle.session_text.specs.declared.refusal.Refusal.TheVariants.{Round};
@@ -15,14 +17,15 @@ ghost use Rattle.span_types.specs.Faults.{Rose};
 ghost use Rattle.span_types.specs.First.{IsFirstOf};
 ghost use Rattle.span_types.specs.declared.spans.Row.{Row};
 ghost use Rattle.store_model.specs.Choice.{choice, most_rows};
-ghost use Rattle.store_model.specs.Event.Event.{BeginCompact, BeginFlush};
+ghost use Rattle.store_model.specs.Event.Event.{BeginCompact, BeginFlush, CommitCompact, CommitFlush};
 ghost use Rattle.store_state.specs.Made.{Call};
 ghost use Rattle.store_state.specs.declared.rounds.Refusal.{Refusal as Cause};
 ghost use Rattle.store_state.specs.declared.rounds.Round.{Round as RoundEnd};
-ghost use Rattle.store_state.specs.declared.rounds.Round.TheVariants.{Nothing, Refused as IsRefused};
+ghost use Rattle.store_state.specs.declared.rounds.Round.TheVariants.{Did, Nothing, Refused as IsRefused};
 ghost use Rattle.session_meaning.specs.At.{At, IsStill};
 ghost use Rattle.session_meaning.specs.declared.ending.Ending.TheVariants.{Answered as answered, Starved};
 ghost use Rattle.session_meaning.specs.Runs.{Edges, ReadsWell};
+ghost use Rattle.session_meaning.specs.ServedJobs.{ListsInPlace, ListsRows};
 ghost use Rattle.session_meaning.specs.ServedReplies.{CallPlace, WasReplied};
 ghost use Rattle.session_meaning.specs.ServedRounds.{HasCauseThere, HasItsRoom, HasRoomForRound, IsDecided, IsFreeFor, IsRoundOf, IsTurnedDown, Kind, asked_for, begin_of, told_as, work_for};
 ghost use Rattle.session_meaning.specs.ServedRuns.{IsServedRun, Served};
@@ -44,7 +47,7 @@ pub fn rounds_of_clients_have_their_causes()
         × (why ≡ Round cause)
         × IsRoundOf kind (front ++ call_of place.entry ∷ back) (IsRefused cause)
         × IsTurnedDown cause place.entry.reply
-        × HasCauseThere kind told cause place.before place.after }
+        × HasCauseThere kind told cause place.entry.event place.before place.after }
     // Told that there was nothing to do, its one call found that in a store that writes, with no job of its kind open.
     ensures nothing { (told : Bool) (first last : At) (scripts : List (List Item))
         (answers : List Answered) (entries : List Entry) (client : ℕ) (asked : List Item)
@@ -105,4 +108,38 @@ pub fn rounds_of_clients_are_counted()
         → (place : CallPlace told first entries last client asked got [])
         × (place.entry.event ≡ BeginCompact)
         × (blocks ≡ length (choice place.before.machine.state.blocks)) }
+{}
+
+/// What a flush and a compaction of a client that did something list by their commits, in the one order of all calls.
+/// `begin` is the place of the round's first call, `place` that of its last one, and `between` are all calls in between.
+pub fn rounds_of_clients_list_their_blocks()
+    // A flush: its last call is the commit of the job that its first one gave, after which a block is listed with as many
+    // rows as it is told, the first occurrences of those that waited first in the head at its begin.
+    ensures flushed { (told : Bool) (first last : At) (scripts : List (List Item))
+        (answers : List Answered) (entries : List Entry) (client rows : ℕ) (asked : List Item)
+        (got : List Reply) → Ran told first scripts answers entries last
+        → WasReplied scripts answers client asked got (Ok Flush) (Flushed rows)
+        → (begin : CallPlace told first entries last client asked got [])
+        × (front : List Call) × (place : CallPlace told first entries last client asked got front)
+        × (between : List Entry)
+        × (place.earlier ≡ begin.earlier ++ begin.entry ∷ between)
+        × (begin.entry.event ≡ BeginFlush)
+        × (place.entry.event ≡ CommitFlush (begin.before.machine.state.begun + 1) rows)
+        × IsFlushRound (front ++ call_of place.entry ∷ []) (Did 1 rows)
+        × ListsRows begin.before.machine place.before.machine rows place.after.machine }
+    // A compaction: its last call is the commit of the job that its first one gave, which lists one block in the place of
+    // those that were chosen at its begin.
+    ensures joined { (told : Bool) (first last : At) (scripts : List (List Item))
+        (answers : List Answered) (entries : List Entry) (client blocks rows : ℕ)
+        (asked : List Item) (got : List Reply) → Ran told first scripts answers entries last
+        → WasReplied scripts answers client asked got (Ok Compact) (Compacted blocks rows)
+        → (begin : CallPlace told first entries last client asked got [])
+        × (front : List Call) × (place : CallPlace told first entries last client asked got front)
+        × (between : List Entry)
+        × (place.earlier ≡ begin.earlier ++ begin.entry ∷ between)
+        × (begin.entry.event ≡ BeginCompact)
+        × (place.entry.event ≡ CommitCompact (begin.before.machine.state.begun + 1) rows)
+        × IsCompactRound (front ++ call_of place.entry ∷ []) (Did blocks rows)
+        × ListsInPlace told begin.before.machine place.before.machine blocks rows
+        place.after.machine }
 {}
