@@ -8,7 +8,7 @@ use Rattle.trace_shell.proofs.ingesting.push_window.Goals as goal
 
 pub loop-line-init : goal.loop-line-init
 loop-line-init g c = record {
-  so_far = pushing_begins g.D.Device c.args.core.now _ c.args.tally.now _ c.args.window.items;
+  so_far = pushing_begins g.D.Device c.args.core.now _ c.args.tally.now _ c.args.window.items c.into_iter-line-iterator.result.rest.items c.into_iter-line-iterator.ensures.into_iter_gives.0;
   holds = c.requires;
   sink_counted = omega arith;
 }
