@@ -33,30 +33,44 @@ next_lines text line more Middle ToRead one two = record {
   after = two.after;
 }
 
+-- Lines were read.
+pub reads_more : (text : List ℕ) (pushed ls : List (List ℕ)) (left_old left : Option (List ℕ)) (reader_old reader : Reader) (at : IsReadingAt text pushed left_old reader_old)
+    → AreNextLines at.rest ls (IsToRead reader left) → TakesBytes left_old left reader_old.taken reader.taken → IsReadingAt text (pushed ++ ls) left reader
+reads_more text pushed ls left_old left reader_old reader at next took = record {
+  front = at.front ++ next.past;
+  rest = next.rest;
+  text_is = further text at.front at.rest next.past next.rest at.text_is next.parts;
+  lines_are = at.lines_are ∙ ap (λ (xs : List (List ℕ)). pushed ++ xs) next.first ∙ sym (append_assoc pushed ls (lines next.rest));
+  to_read = next.after;
+  took = took_more text left_old left 0 reader_old.taken reader.taken at.took took;
+}
+
+-- One line was.
+pub reads_on : (text : List ℕ) (pushed : List (List ℕ)) (left_old left : Option (List ℕ)) (reader_old reader : Reader) (line : List ℕ) (at : IsReadingAt text pushed left_old reader_old)
+    → IsNextLine at.rest line (IsToRead reader left) → TakesBytes left_old left reader_old.taken reader.taken → IsReadingAt text (pushed ++ line ∷ []) left reader
+reads_on text pushed left_old left reader_old reader line at next took =
+    reads_more text pushed (line ∷ []) left_old left reader_old reader at
+    (record { past = next.past; rest = next.rest; parts = next.parts; first = next.first; after = next.after }) took
+
+-- Those of `asked` and those of `more` are in order.
 split_lines : (all pushed read asked more later : List (List ℕ)) → all ≡ pushed ++ read → read ≡ (asked ++ more) ++ later → all ≡ (pushed ++ asked) ++ (more ++ later)
 split_lines all pushed read asked more later is parts =
     is ∙ ap (λ (ls : List (List ℕ)). pushed ++ ls) (parts ∙ append_assoc asked more later) ∙ sym (append_assoc pushed asked (more ++ later))
+
+ends_so : (text : List ℕ) (pushed later : List (List ℕ)) (left : Option (List ℕ)) (e : Ending) → (e ≡ WriteFault) ⊎ (e ≡ Starved) → lines text ≡ pushed ++ later → HasReadTo (Some e) text pushed left
+ends_so text pushed later left e (inl is) split = subst (λ (x : Ending). HasReadTo (Some x) text pushed left) (sym is) (later, split, tt)
+ends_so text pushed later left e (inr is) split = subst (λ (x : Ending). HasReadTo (Some x) text pushed left) (sym is) (later, split, tt)
 
 -- The lines `asked` and `more` were read, and those of `asked` pushed. The run goes on where these are all, or it ends.
 reads_turn : (text : List ℕ) (pushed ls asked more : List (List ℕ)) (left_old left : Option (List ℕ)) (reader_old reader : Reader) (o : Option Ending) (at : IsReadingAt text pushed left_old reader_old)
     → IfSome o (λ e. (e ≡ WriteFault) ⊎ (e ≡ Starved)) → AreNextLines at.rest ls (IsToRead reader left) → ls ≡ asked ++ more → (o ≡ None → more ≡ [])
     → TakesBytes left_old left reader_old.taken reader.taken → ReadOn (turn_of o) text (pushed ++ asked) left reader
 reads_turn text pushed ls asked more left_old left reader_old reader None at ends next are all took =
-    let split = split_lines (lines text) pushed (lines at.rest) asked more (lines next.rest) at.lines_are (next.first ∙ ap (λ (xs : List (List ℕ)). xs ++ lines next.rest) are) in record {
-      front = at.front ++ next.past;
-      rest = next.rest;
-      text_is = further text at.front at.rest next.past next.rest at.text_is next.parts;
-      lines_are = split ∙ ap (λ (xs : List (List ℕ)). (pushed ++ asked) ++ (xs ++ lines next.rest)) (all refl);
-      to_read = next.after;
-      took = took_more text left_old left 0 reader_old.taken reader.taken at.took took;
-    }
+    subst (λ (xs : List (List ℕ)). IsReadingAt text (pushed ++ xs) left reader) (are ∙ ap (λ (xs : List (List ℕ)). asked ++ xs) (all refl) ∙ append-nil asked)
+    (reads_more text pushed ls left_old left reader_old reader at next took)
 reads_turn text pushed ls asked more left_old left reader_old reader (Some e) at ends next are all took =
-    let split = split_lines (lines text) pushed (lines at.rest) asked more (lines next.rest) at.lines_are (next.first ∙ ap (λ (xs : List (List ℕ)). xs ++ lines next.rest) are) in
-    ends_so e ends (more ++ lines next.rest, split)
-  where
-    ends_so : (x : Ending) → (x ≡ WriteFault) ⊎ (x ≡ Starved) → (later : List (List ℕ)) × (lines text ≡ (pushed ++ asked) ++ later) → HasReadTo (Some x) text (pushed ++ asked) left
-    ends_so x (inl is) (later, split) = subst (λ (y : Ending). HasReadTo (Some y) text (pushed ++ asked) left) (sym is) (later, split, tt)
-    ends_so x (inr is) (later, split) = subst (λ (y : Ending). HasReadTo (Some y) text (pushed ++ asked) left) (sym is) (later, split, tt)
+    ends_so text (pushed ++ asked) (more ++ lines next.rest) left e ends
+    (split_lines (lines text) pushed (lines at.rest) asked more (lines next.rest) at.lines_are (next.first ∙ ap (λ (xs : List (List ℕ)). xs ++ lines next.rest) are))
 
 pub is_stopped : (o : Option Ending) → IfSome o (λ e. (e ≡ WriteFault) ⊎ (e ≡ Starved)) → IsStopped o o
 is_stopped None ends = refl

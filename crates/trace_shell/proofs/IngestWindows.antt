@@ -34,8 +34,10 @@ module _ {D : Type 0} (g : Ghosts D) where
       (items : List Item) × (replies : List Reply) × HasAsked g start core old new tally_old tally_new items replies stopped
       × ((lines : List (List ℕ)) → AreOf lines window → HasPushed g start core told to_tell items replies stopped lines)
 
-  pub pushing_begins : (core : Core D) (taken : Option (List ℕ)) (tally : Tally) (told : Option (List ℕ)) (window : List WindowLine) → Pushing core core taken taken tally tally told told window window None
-  pushing_begins core taken tally told window = ([], [], asked_none g core taken tally, λ lines are. ([], lines, refl, are, λ later. leaves_same g core (from_lines later) told None))
+  -- None was.
+  pub pushing_begins : (core : Core D) (taken : Option (List ℕ)) (tally : Tally) (told : Option (List ℕ)) (window left : List WindowLine) → left ≡ window → Pushing core core taken taken tally tally told told window left None
+  pushing_begins core taken tally told window left is =
+      ([], [], asked_none g core taken tally, λ lines are. ([], lines, refl, subst (λ (ws : List WindowLine). AreOf lines ws) (sym is) are, λ later. leaves_same g core (from_lines later) told None))
 
   -- One more line was.
   pub pushing_on : (start middle core : Core D) (old between new : Option (List ℕ)) (tally_old tally tally_new : Tally) (told told_between to_tell : Option (List ℕ)) (window left later : List WindowLine) (line : WindowLine) (o stopped : Option Ending)

@@ -242,13 +242,26 @@ fn push_from<R: Threads + Sync, K: Sink, D: Device, C: Clock, G: Gate>(
     ensures endings { IfSome result (λ ending. (ending ≡ WriteFault) ⊎ (ending ≡ Starved)) }
 {
     match window_from(alloc, reader, first) {
-        Ok(mut window) => {
-            read_all(rt, alloc, window.as_mut_slice());
-            push_window(rt, alloc, tally, sink, core, clock, gate, window)
+        Ok(window) => {
+            let lines = read_in_threads(rt, alloc, window);
+            push_window(rt, alloc, tally, sink, core, clock, gate, lines)
         }
         // Out of memory for a window the line is pushed alone.
         Err(line) => push_line(rt, alloc, tally, sink, core, clock, gate, line),
     }
+}
+
+// The lines of a window, read in threads.
+fn read_in_threads<R: Threads + Sync>(
+    rt: &R,
+    alloc: Global,
+    window: Vec<WindowLine>,
+) -> Vec<WindowLine>
+    ensures { (lines : List (List ℕ)) → AreOf lines window.items → AreOf lines result.items }
+{
+    let mut read = window;
+    read_all(rt, alloc, read.as_mut_slice());
+    read
 }
 
 // Pushes the lines of a window, until the run ends.
@@ -276,9 +289,8 @@ fn push_window<R: Threads + Sync, K: Sink, D: Device, C: Clock, G: Gate>(
     ensures endings { IfSome result (λ ending. (ending ≡ WriteFault) ⊎ (ending ≡ Starved)) }
 {
     for line in window {
-        match push_line(rt, alloc, tally, sink, core, clock, gate, line) {
-            Some(ending) => return Some(ending),
-            None => {}
+        if let Some(ending) = push_line(rt, alloc, tally, sink, core, clock, gate, line) {
+            return Some(ending);
         }
     }
     None

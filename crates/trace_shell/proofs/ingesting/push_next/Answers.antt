@@ -1,4 +1,4 @@
-use Rattle.std.proofs.Common.{Err, ap, arith, inr, sym, subst, refl}
+use Rattle.std.proofs.Common.{◌<◌, Err, ap, arith, inr, sym, subst, refl}
 use Rattle.std.specs.Prelude.{◌≡◌, IfSome}
 use Rattle.span_types.specs.Faults.{Rose}
 use Rattle.io_edges.specs.Lines.{taken_limit}
@@ -92,12 +92,12 @@ returns-in-TooLong-clause-endings g c = subst (λ o. IfSome o IsPastOpening) (sy
 
 pub returns-in-Whole-clause-nearer : goal.returns-in-Whole-clause-nearer
 returns-in-Whole-clause-nearer g c = λ goes_on.
-    let nearer = subst (λ l. ComesNearer l (to_come c.args.reader.now) (to_come c.next.new.self)) c.in-Whole.is c.in-Ok.ensures.nearer in
+    let nearer : to_come c.next.new.self < to_come c.args.reader.now = subst (λ l. ComesNearer l (to_come c.args.reader.now) (to_come c.next.new.self)) c.in-Whole.is c.in-Ok.ensures.nearer in
     omega (arith, nearer, c.push_from.ensures.nearer)
 
 pub returns-in-TooLong-clause-nearer : goal.returns-in-TooLong-clause-nearer
 returns-in-TooLong-clause-nearer g c = λ goes_on.
-    let nearer = subst (λ l. ComesNearer l (to_come c.args.reader.now) (to_come c.next.new.self)) c.in-TooLong.is c.in-Ok.ensures.nearer in
+    let nearer : to_come c.next.new.self < to_come c.args.reader.now = subst (λ l. ComesNearer l (to_come c.args.reader.now) (to_come c.next.new.self)) c.in-TooLong.is c.in-Ok.ensures.nearer in
     omega (arith, nearer, c.push_from-in-TooLong.ensures.nearer)
 
 pub returns-in-Whole-clause-took : goal.returns-in-Whole-clause-took
