@@ -1,6 +1,5 @@
 -- Histories that can't be told apart are told alike, and stored alike.
 use Rattle.std.proofs.Common.{◌≡◌, ◌⊎◌, inl, inr, ◌∙◌, ℕ, ◌+◌, ◌-◌, ◌≤◌, suc, List, [], ◌∷◌, ◌++◌, Option, Some, None, Ok, Err, IsTrue, ap, arith, length, refl, sym, subst, take, true}
-use Rattle.std.specs.List.{Contains}
 use Rattle.disk_model.specs.Images.{Image}
 use Rattle.disk_model.specs.Crash.{Reached}
 use Rattle.disk_model.specs.declared.disk.Device.{Ghosts}
@@ -27,9 +26,10 @@ use Rattle.session_meaning.specs.Runs.{Edges, IsRunOf, Outcome}
 use Rattle.session_meaning.specs.Session.{IsFound}
 use Rattle.session_meaning.specs.Stops.{Recovers}
 use Rattle.session_meaning.proofs.Firsts.{trace_alike}
+use Rattle.headline.specs.Amid.{AllMayStandFor, GoesOnFrom, IsAmid, LiesAmid}
 use Rattle.headline.specs.Headline.{KeepsTheHistory, Tells, TellTheHistory, TellsOf}
 use Rattle.headline.proofs.Histories.{KeptAlike, acts_grow, added_all, added_all_alike, all_alike, line_alike, told_kept, were_alike}
-use Rattle.headline.proofs.Kept.{kept_throughout, run_keeps}
+use Rattle.headline.proofs.Kept.{kept_amid, kept_throughout, run_keeps}
 
 -- ---- what is told
 
@@ -201,16 +201,24 @@ module _ {D : Type 0} (g : Ghosts D) where
         by_unsure (Some entry) (inr stands) = (grown last.history (entry ∷ []), inr refl, go_on (grown last.history (entry ∷ [])) stands)
 
     -- On what was left at some moment of it.
-    abbrev IsFrontOr : History → Type 0
-    IsFrontOr start =
-        ((n : ℕ) × (count_of first ≤ n) × (n ≤ count_of last.history) × (start ≡ up_to n last.history))
-        ⊎ ((p : Pending) × Contains (were_unsure last) p × (count_of first ≤ p.length) × (p.length ≤ count_of last.history) × (start ≡ grown (up_to p.length last.history) (p.entry ∷ [])))
+    from_amid : StoodAmid (count_of first) last.history (were_unsure last) (g.held disk) → (start : History) × IsAmid (count_of first) last start × GoesOn start
+    from_amid (inl (n, since_first, below, stands)) = (up_to n last.history, inl (n, since_first, below, refl), go_on (up_to n last.history) stands)
+    from_amid (inr (p, there, since_first, below, stands)) =
+        let start = grown (up_to p.length last.history) (p.entry ∷ []) in (start, inr (p, there, since_first, below, refl), go_on start stands)
 
     pub stopped_keeps : ((image : Image) → g.may_leave begun image → ImageStandsFor image first) → g.left_since left (g.moment begun) (g.held disk)
-        → (start : History) × IsFrontOr start × GoesOn start
-    stopped_keeps at_first since = by_image (kept_throughout g begun left acts replies first last kept at_first (g.held disk) since)
+        → (start : History) × IsAmid (count_of first) last start × GoesOn start
+    stopped_keeps at_first since = from_amid (kept_throughout g begun left acts replies first last kept at_first (g.held disk) since)
+
+    -- The same where a run before that one had ended with an entry that wasn't sure.
+    pub stopped_amid : (before : History) (unsure : Option Entry) → AllMayStandFor before unsure (g.may_leave begun) → g.left_since left (g.moment begun) (g.held disk)
+        → (start : History) × GoesOnFrom before unsure (count_of first) last start × GoesOn start
+    stopped_amid before unsure at_first since =
+        by_image unsure (kept_amid g begun left acts replies first last kept before unsure at_first (g.held disk) since)
       where
-        by_image : StoodAmid (count_of first) last.history (were_unsure last) (g.held disk) → (start : History) × IsFrontOr start × GoesOn start
-        by_image (inl (n, since_first, below, stands)) = (up_to n last.history, inl (n, since_first, below, refl), go_on (up_to n last.history) stands)
-        by_image (inr (p, there, since_first, below, stands)) =
-            let start = grown (up_to p.length last.history) (p.entry ∷ []) in (start, inr (p, there, since_first, below, refl), go_on start stands)
+        by_image : (u : Option Entry) → LiesAmid before u (count_of first) last.history (were_unsure last) (g.held disk)
+            → (start : History) × GoesOnFrom before u (count_of first) last start × GoesOn start
+        by_image None (inl stands) = (before, inl refl, go_on before stands)
+        by_image (Some entry) (inl (inl stands)) = (before, inl refl, go_on before stands)
+        by_image (Some entry) (inl (inr stands)) = (grown before (entry ∷ []), inr (inl refl), go_on (grown before (entry ∷ [])) stands)
+        by_image u (inr stood) = let on = from_amid stood in (on.0, inr (inr on.1), on.2)

@@ -1,5 +1,5 @@
 -- The disk keeps the history that replies tell.
-use Rattle.std.proofs.Common.{true, ◌≡◌, ◌⊎◌, inl, inr, ◌∙◌, ℕ, List, [], ◌∷◌, Ok, IsTrue, ap, append-nil, arith, refl, sym, subst}
+use Rattle.std.proofs.Common.{Bool, true, false, ◌≡◌, ◌⊎◌, inl, inr, ◌∙◌, ℕ, List, [], ◌∷◌, Option, None, Some, Ok, IsTrue, ap, append-nil, arith, refl, sym, subst}
 use Rattle.disk_model.specs.Crash.{Reached}
 use Rattle.disk_model.specs.Images.{Image}
 use Rattle.disk_model.specs.declared.disk.Device.{Ghosts}
@@ -31,10 +31,20 @@ use Rattle.session_meaning.specs.Session.{Session}
 use Rattle.session_meaning.specs.Stops.{Recovers, StandsWithin}
 use Rattle.session_meaning.proofs.CoreSessions.{since_means}
 use Rattle.session_meaning.proofs.Told.{session_grows}
+use Rattle.headline.specs.Amid.{AllMayStandFor, LiesAmid, StandsAsOneOf}
 use Rattle.headline.specs.Headline.{KeepsTheHistory}
 use Rattle.headline.specs.Requests.{HasHistory, KeepsFrom}
 use Rattle.headline.proofs.Telling.{acts_tell_all}
 use Rattle.headline.proofs.Histories.{added_all, as_before, no_shorter, told_grows}
+
+-- What may stand for a history goes on to where it keeps what was stored.
+still_may : (h : History) (unsure : Option Entry) (old new : Image) → KeepsStored old new → MayStandFor h unsure old → MayStandFor h unsure new
+still_may h None old new keeps stands = keeps.stands h stands
+still_may h (Some entry) old new keeps (inl stands) = inl (keeps.stands h stands)
+still_may h (Some entry) old new keeps (inr stands) = inr (keeps.stands (grown h (entry ∷ [])) stands)
+
+not_opened : (b : Bool) → IsTrue b → b ≡ false → ⊥
+not_opened b held failed = cc
 
 module _ {D : Type 0} (g : Ghosts D) where
   -- ---- a run
@@ -85,6 +95,37 @@ module _ {D : Type 0} (g : Ghosts D) where
   served_throughout disk later s more grows recovers at_first image since = elim (recovers.any_moment image since) [
     | inl was ↦ stood_at_first disk (history_of s.first) (history_of s.last) more (ever_unsure (last_place s)) grows at_first image was
     | inr stood ↦ stood.1
+  ]
+
+  -- ---- where an earlier run had ended with an entry that wasn't sure
+
+  lies_amid : (disk : D) (before : History) (unsure : Option Entry) (least : ℕ) (last : History) (pending : List Pending) → AllMayStandFor before unsure (g.may_leave disk)
+      → (image : Image) → Reached KeepsStored (g.may_leave disk) image ⊎ StoodAmid least last pending image → LiesAmid before unsure least last pending image
+  lies_amid disk before unsure least last pending at_first image (inl was) = inl (still_may before unsure was.0 image was.2 (at_first was.0 was.1))
+  lies_amid disk before unsure least last pending at_first image (inr stood) = inr stood
+
+  pub kept_amid : (disk later : D) (acts : List Act) (replies : List Reply) (first : History) (last : Kept) → KeepsTheHistory g disk later acts replies first last
+      → (before : History) (unsure : Option Entry) → AllMayStandFor before unsure (g.may_leave disk) → (image : Image) → g.left_since later (g.moment disk) image
+      → LiesAmid before unsure (count_of first) last.history (were_unsure last) image
+  kept_amid disk later acts replies first last kept before unsure at_first image since =
+      lies_amid disk before unsure (count_of first) last.history (were_unsure last) at_first image (kept.any_moment image since)
+
+  -- the same of several clients
+  pub served_amid : (disk later : D) (s : Served) → RecoversServed g disk later s
+      → (before : History) (unsure : Option Entry) → AllMayStandFor before unsure (g.may_leave disk) → (image : Image) → g.left_since later (g.moment disk) image
+      → LiesAmid before unsure (count_of (history_of s.first)) (history_of s.last) (ever_unsure (last_place s)) image
+  served_amid disk later s recovers before unsure at_first image since = elim (recovers.any_moment image since) [
+    | inl was ↦ inl (still_may before unsure was.0 image was.2 (at_first was.0 was.1))
+    | inr stood ↦ inr stood.1
+  ]
+
+  -- ---- a run that doesn't open its store
+
+  pub unopened_stands : (disk later : D) (o : Outcome) → Recovers g disk later o → o.opened ≡ false → (image : Image) → g.left_since later (g.moment disk) image
+      → StandsAsOneOf (g.may_leave disk) image
+  unopened_stands disk later o recovers unopened image since = elim (recovers.any_moment image since) [
+    | inl was ↦ (was.0, was.1, was.2.stands, was.2.only)
+    | inr stood ↦ absurd (not_opened o.opened stood.0 unopened)
   ]
 
   -- ---- lines over a core

@@ -1,3 +1,4 @@
 pub mod Headline
+pub mod Amid
 pub mod Stopped
 pub mod Requests

@@ -4,7 +4,7 @@
 //! crate is above this one: they are there to be read. Their bodies are empty, but for two that call a theorem of
 //! `session_meaning` to have its contract. The parameters name disks and cores, before and after.
 
-ghost use Rattle.std.specs.Prelude.{Bool, IsTrue, true, ◌≡◌, ◌⊎◌, ◌<◌, ◌≤◌, ◌+◌, ◌++◌, List, [], ◌∷◌, Some, Ok, length, ℕ};
+ghost use Rattle.std.specs.Prelude.{Bool, IsTrue, true, false, ◌≡◌, ◌⊎◌, ◌<◌, ◌≤◌, ◌+◌, ◌++◌, List, [], ◌∷◌, Option, Some, Ok, length, ℕ};
 ghost use Rattle.std.specs.List.{Contains};
 ghost use Rattle.command_words.specs.Commands.{Command, Spells};
 ghost use Rattle.disk_model.specs.Images.{Image};
@@ -18,8 +18,9 @@ ghost use Rattle.session_text.specs.declared.request.Request.TheVariants.{Push};
 ghost use Rattle.session_text.specs.Items.{Item};
 ghost use Rattle.store_core.specs.Port.{port_of};
 ghost use Rattle.store_images.specs.Stored.{ImageStandsFor, MayStandFor};
-ghost use Rattle.store_model.specs.History.{History, count_of, grown, up_to, with_entry};
-ghost use Rattle.store_reopen.specs.Through.{Pending, StoodAmid};
+ghost use Rattle.store_entries.specs.declared.entry.Entry.{Entry};
+ghost use Rattle.store_model.specs.History.{History, count_of, grown, with_entry};
+ghost use Rattle.store_reopen.specs.Through.{StoodAmid};
 ghost use Rattle.client_run.specs.Answers.{HasReplied};
 ghost use Rattle.session_meaning.specs.Act.{Act};
 ghost use Rattle.session_meaning.specs.At.{At, history_of};
@@ -33,6 +34,7 @@ ghost use Rattle.session_meaning.specs.ServedReplies.{AllTellFronts, HasTheirPus
 ghost use Rattle.session_meaning.specs.ServedRuns.{RecoversServed, Served, ServesAs, last_place};
 ghost use Rattle.session_meaning.specs.Session.{Session};
 ghost use Rattle.session_meaning.specs.Stops.{Recovers};
+ghost use Rattle.headline.specs.Amid.{AllMayStandFor, GoesOnFrom, IsAmid, LiesAmid, StandsAsOneOf};
 ghost use Rattle.headline.specs.Headline.{KeepsTheHistory, TellTheHistory, TellsFront};
 ghost use Rattle.headline.specs.Requests.{HasHistory, KeepsFrom};
 ghost use Rattle.headline.specs.Stopped.{AreToldReadOnly, StopsWriting};
@@ -62,6 +64,22 @@ pub fn the_headline<D: Device>(disk: &D, later: &D)
         → ((image : Image) → D.may_leave disk.now image → ImageStandsFor image first)
         → (image : Image) → D.left_since later.now (D.moment disk.now) image
         → StoodAmid (count_of first) last.history (were_unsure last) image }
+    // The same where an earlier run had ended with a push that was answered `disk-fault`, and all that a crash could
+    // leave at first stood for the history that it kept, or for that and then this push: so does what is left later, or
+    // it stands for the run's own history as above.
+    ensures at_any_moment_after_a_fault { (acts : List Act) (replies : List Reply)
+        (first : History) (last : Kept)
+        → KeepsTheHistory D.Device.own disk.now later.now acts replies first last
+        → (before : History) (unsure : Option Entry)
+        → AllMayStandFor before unsure (D.may_leave disk.now)
+        → (image : Image) → D.left_since later.now (D.moment disk.now) image
+        → LiesAmid before unsure (count_of first) last.history (were_unsure last) image }
+    // A run that doesn't open its store adds and loses nothing: whatever a crash left at any moment of it stands for just
+    // the histories for which some image stood that one could leave at first.
+    ensures before_it_opens { (o : Outcome)
+        → Recovers D.Device.own disk.now later.now o → o.opened ≡ false
+        → (image : Image) → D.left_since later.now (D.moment disk.now) image
+        → StandsAsOneOf (D.may_leave disk.now) image }
 {}
 
 /// The headline of several clients that were answered at once. Each answer is TraceQL's meaning over one front of the
@@ -89,6 +107,15 @@ pub fn the_headline_of_clients<D: Device>(disk: &D, later: &D)
         → ImageStandsFor image (history_of s.first))
         → (image : Image) → D.left_since later.now (D.moment disk.now) image
         → StoodAmid (count_of (history_of s.first)) (history_of s.last)
+        (ever_unsure (last_place s)) image }
+    // The same where an earlier run had ended with a push that was answered `disk-fault`, and all that a crash could
+    // leave at first stood for the history that it kept, or for that and then this push.
+    ensures at_any_moment_after_a_fault { (s : Served)
+        → RecoversServed D.Device.own disk.now later.now s
+        → (before : History) (unsure : Option Entry)
+        → AllMayStandFor before unsure (D.may_leave disk.now)
+        → (image : Image) → D.left_since later.now (D.moment disk.now) image
+        → LiesAmid before unsure (count_of (history_of s.first)) (history_of s.last)
         (ever_unsure (last_place s)) image }
 {
     what_was_seen_counts();
@@ -126,11 +153,20 @@ pub fn the_next_run_goes_on<D: Device>(begun: &D, left: &D, disk: &D, later: &D)
         → Recovers D.Device.own disk.now later.now o → IsTrue o.opened
         → ((image : Image) → D.may_leave begun.now image → ImageStandsFor image first)
         → D.left_since left.now (D.moment begun.now) (D.held disk.now)
-        → (start : History)
-        × (((n : ℕ) × (count_of first ≤ n) × (n ≤ count_of last.history) × (start ≡ up_to n last.history))
-        ⊎ ((p : Pending) × Contains (were_unsure last) p × (count_of first ≤ p.length)
-        × (p.length ≤ count_of last.history)
-        × (start ≡ grown (up_to p.length last.history) (p.entry ∷ []))))
+        → (start : History) × IsAmid (count_of first) last start
+        × KeepsTheHistory D.Device.own disk.now later.now o.acts o.replies
+        start (kept_after_all (begun_with start) o.acts o.replies) }
+    // The same where a run before that one had ended with a push that was answered `disk-fault`: this run may also go on
+    // with the history that was kept then, with or without that push.
+    ensures after_a_fault_and_a_crash { (acts : List Act) (replies : List Reply)
+        (first : History) (last : Kept)
+        → KeepsTheHistory D.Device.own begun.now left.now acts replies first last
+        → (words : List (List ℕ)) (o : Outcome) (old new : Edges) → IsRunOf true words o old new
+        → Recovers D.Device.own disk.now later.now o → IsTrue o.opened
+        → (before : History) (unsure : Option Entry)
+        → AllMayStandFor before unsure (D.may_leave begun.now)
+        → D.left_since left.now (D.moment begun.now) (D.held disk.now)
+        → (start : History) × GoesOnFrom before unsure (count_of first) last start
         × KeepsTheHistory D.Device.own disk.now later.now o.acts o.replies
         start (kept_after_all (begun_with start) o.acts o.replies) }
 {}

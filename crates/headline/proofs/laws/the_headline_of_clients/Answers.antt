@@ -1,4 +1,4 @@
-use Rattle.headline.proofs.Kept.{served_throughout}
+use Rattle.headline.proofs.Kept.{served_amid, served_throughout}
 use Rattle.headline.proofs.laws.the_headline_of_clients.Goals as goal
 
 pub returns-clause-answers : goal.returns-clause-answers
@@ -16,3 +16,6 @@ pub returns-clause-at_any_moment : goal.returns-clause-at_any_moment
 returns-clause-at_any_moment g c told words s old new serves recovers =
     let theirs = c.clients_make_the_history.ensures told s.first s.last s.scripts s.answers s.entries serves.3.ran in
     served_throughout g.D.Device c.args.disk.now c.args.later.now s _ theirs.grows recovers
+
+pub returns-clause-at_any_moment_after_a_fault : goal.returns-clause-at_any_moment_after_a_fault
+returns-clause-at_any_moment_after_a_fault g c = served_amid g.D.Device c.args.disk.now c.args.later.now
