@@ -12,7 +12,7 @@ use Rattle.stored_history.specs.Alike.{AreAlike}
 use Rattle.stored_history.proofs.StayAlike.{stay_alike}
 use Rattle.session_meaning.specs.Act.{Act}
 use Rattle.session_meaning.specs.Act.Act.{Ask, Reopen, Unread}
-use Rattle.session_meaning.specs.Kept.{Kept, begun_with, found_again, kept_after, kept_after_all, were_unsure}
+use Rattle.session_meaning.specs.Kept.{Kept, found_again, kept_after, kept_after_all, were_unsure}
 use Rattle.session_meaning.specs.Pushes.{accepted_entry, unsure_after_line}
 use Rattle.headline.specs.Headline.{TellTheHistory, TellsFront, TellsOf}
 
