@@ -163,8 +163,12 @@ fn answered<R: Threads + Wait + Sync, G: Gate>(
     load: Load,
     gate: &G,
 ) -> Option<bool> {
+    let all = scripts(alloc, load)?;
+    if all.len() > 16 {
+        return None;
+    }
     let core = opened(alloc, MemDisk::empty(alloc))?;
-    let (core, answers) = run_scripts(rt, alloc, core, scripts(alloc, load)?, gate);
+    let (core, answers) = run_scripts(rt, alloc, core, all, gate);
     let _disk = core.close();
     let answers = answers.ok()?;
     stand_together(alloc, load, answers.as_slice())

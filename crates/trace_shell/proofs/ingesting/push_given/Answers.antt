@@ -1,5 +1,6 @@
 use Rattle.std.proofs.Common.{subst, sym}
 use Rattle.store_core.specs.Port.{port_of}
+use Rattle.session_text.specs.declared.reply.Reply.TheVariants.{Refused}
 use Rattle.session_text.specs.declared.request.Request.TheVariants.{Push}
 use Rattle.line_windows.specs.Windows.{pushed_at}
 use Rattle.session_meaning.specs.Progress.{HasAnsweredOne}
@@ -13,4 +14,4 @@ returns-in-Ok g c =
 
 pub returns-in-Err : goal.returns-in-Err
 returns-in-Err g c =
-    subst (λ r. HasAnsweredOne (port_of g.D.Device) c.args.core.now (pushed_at c.args.moment r) _ c.args.core.now) (sym c.in-Err.is) (one_refused (port_of g.D.Device) c.args.core.now c.in-Err.why)
+    subst (λ r. HasAnsweredOne (port_of g.D.Device) c.args.core.now (pushed_at c.args.moment r) (Refused c.in-Err.why) c.args.core.now) (sym c.in-Err.is) (one_refused (port_of g.D.Device) c.args.core.now c.in-Err.why)
