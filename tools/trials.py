@@ -94,21 +94,28 @@ LIBRARY = r"""
 #include <errno.h>
 #include <stdio.h>
 #include <stdlib.h>
+#include <sys/syscall.h>
+#include <unistd.h>
 void *__libc_malloc(size_t), *__libc_calloc(size_t, size_t), *__libc_realloc(void *, size_t), *__libc_memalign(size_t, size_t);
-static unsigned long count;
+static _Atomic unsigned long count;
 static int refused(void) {
     const char *from = getenv("REFUSE_FROM"), *to = getenv("REFUSE_TO");
-    count++;
-    return from && to && count >= strtoul(from, 0, 10) && count <= strtoul(to, 0, 10) && (errno = ENOMEM);
+    unsigned long at = ++count;
+    return from && to && at >= strtoul(from, 0, 10) && at <= strtoul(to, 0, 10) && (errno = ENOMEM);
 }
 void *malloc(size_t size) { return refused() ? 0 : __libc_malloc(size); }
 void *calloc(size_t items, size_t size) { return refused() ? 0 : __libc_calloc(items, size); }
 void *realloc(void *had, size_t size) { return refused() ? 0 : __libc_realloc(had, size); }
 void *aligned_alloc(size_t align, size_t size) { return refused() ? 0 : __libc_memalign(align, size); }
 int posix_memalign(void **made, size_t align, size_t size) { *made = aligned_alloc(align, size); return *made ? 0 : ENOMEM; }
-__attribute__((destructor)) static void tell(void) {
+static void tell(void) {
     FILE *file = getenv("REFUSE_TOLD") ? fopen(getenv("REFUSE_TOLD"), "w") : 0;
     if (file && fprintf(file, "%lu", count) > 0) fclose(file);
+}
+void _exit(int status) {
+    tell();
+    syscall(SYS_exit_group, status);
+    __builtin_unreachable();
 }
 """
 
