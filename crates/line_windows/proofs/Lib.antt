@@ -1,1 +1,3 @@
 pub mod WindowLemmas
+pub mod Crossing
+pub mod AskingLemmas

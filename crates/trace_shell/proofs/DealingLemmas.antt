@@ -11,16 +11,20 @@ use Rattle.io_edges.specs.Lines.{line_limit, lines}
 use Rattle.io_edges.specs.Reader.{IsNextLine, IsToRead, Reader, TakesBytes}
 use Rattle.session_text.specs.declared.refusal.Refusal.TheVariants.{TooLong}
 use Rattle.session_text.specs.Items.{Item}
+use Rattle.line_windows.specs.Asking.{MayAsk}
+use Rattle.line_windows.specs.declared.asking.Asking.{Asking}
+use Rattle.line_windows.specs.declared.asking.Asking.TheVariants.{Read}
 use Rattle.session_meaning.specs.declared.ending.Ending.{Ending}
 use Rattle.session_meaning.specs.declared.ending.Ending.TheVariants.{ReadFault, Spent, Starved}
 use Rattle.session_meaning.specs.Asked.{IsNextMoment, after_lines, after_moment}
 use Rattle.session_meaning.specs.Serving.{AreDealt, Dealt, IsDealt, asks, of_nobody, script_of, scripts_of, too_long}
 use Rattle.store_model.proofs.Numbers.{equal_itself, same_number}
 use Rattle.session_meaning.proofs.SessionLaws.{after_empty, after_line}
-use Rattle.trace_shell.specs.Dealing.{DealtOn, HasDealt, HasStopped, IsDealingAt, IsEarly, IsGiven, scripts_in}
+use Rattle.trace_shell.specs.Dealing.{AreDealtOn, DealtOn, HasDealt, HasStopped, IsDealingAt, IsEarly, IsGiven, MayAskAll, scripts_in}
 use Rattle.trace_shell.specs.Ingesting.{HasReadTo, IsReadingAt, ending_in}
 use Rattle.trace_shell.specs.declared.ingesting.After.{After}
 use Rattle.trace_shell.specs.declared.ingesting.After.TheVariants as after
+use Rattle.trace_shell.proofs.AskingLemmas.{given_back, none_asked, some_scripts}
 use Rattle.trace_shell.proofs.IngestReads.{reads_on}
 
 -- ---- lines
@@ -226,61 +230,66 @@ dealt_within clients moment line refused dealt one (of_nobody short nobody is no
 
 -- ---- what a turn does
 
-module _ (clients : ℕ) (refused : List (List ℕ) → Type 0) (left_old left to_tell_old to_tell : Option (List ℕ)) (reader_old reader : Reader) (scripts_old scripts : List (List Item)) (turn : After) where
+module _ (clients : ℕ) (refused : List (List ℕ) → Type 0) (left_old left to_tell_old to_tell : Option (List ℕ)) (reader_old reader : Reader) (unread_old unread : List (List Asking)) (turn : After) where
   abbrev pub Deals : Type 0
   Deals =
       (more : List (List ℕ)) × refused more × ((told : Option (List ℕ)) (text : List ℕ) (blamed : List (List ℕ))
-      → IsDealingAt clients told text left_old to_tell_old reader_old scripts_old blamed → DealtOn turn clients told text left to_tell reader scripts (blamed ++ more))
+      → AreDealtOn after.Line clients told text left_old to_tell_old reader_old unread_old blamed → AreDealtOn turn clients told text left to_tell reader unread (blamed ++ more))
 
   -- Nothing was dealt in it.
   pub idle_deals : refused [] → ((told : Option (List ℕ)) (text : List ℕ) (blamed : List (List ℕ))
-      → IsDealingAt clients told text left_old to_tell_old reader_old scripts_old blamed → DealtOn turn clients told text left to_tell reader scripts blamed) → Deals
+      → AreDealtOn after.Line clients told text left_old to_tell_old reader_old unread_old blamed → AreDealtOn turn clients told text left to_tell reader unread blamed) → Deals
   idle_deals none on =
-      ([], none, λ told text blamed at. subst (λ (ts : List (List ℕ)). DealtOn turn clients told text left to_tell reader scripts ts) (sym (append-nil blamed)) (on told text blamed at))
+      ([], none, λ told text blamed was. subst (λ (ts : List (List ℕ)). AreDealtOn turn clients told text left to_tell reader unread ts) (sym (append-nil blamed)) (on told text blamed was))
 
   -- A line was read that isn't too long.
   pub whole_deals : (line : List ℕ) → 1 ≤ clients
-      → (line ≡ [] → (turn ≡ after.Line) × (scripts ≡ scripts_old) × (to_tell ≡ to_tell_old) × refused [])
-      → (0 < length line → (more : List (List ℕ)) × refused more × (moment client : ℕ) × (item : Item) × IsNextMoment to_tell_old moment
-      × IsDealt clients moment line more (record { client = client; item = item }) × (to_tell ≡ after_moment to_tell_old) × IsGiven client item scripts_old scripts turn)
+      → (line ≡ [] → (turn ≡ after.Line) × (unread ≡ unread_old) × (to_tell ≡ to_tell_old) × refused [])
+      → (0 < length line → (more : List (List ℕ)) × refused more × (moment client : ℕ) × (asking : Asking) × IsNextMoment to_tell_old moment
+      × ((item : Item) → MayAsk asking item → IsDealt clients moment line more (record { client = client; item = item })) × (to_tell ≡ after_moment to_tell_old) × IsGiven client asking unread_old unread turn)
       → ((rest : List ℕ) → IsToRead reader_old left_old rest → IsNextLine rest line (IsToRead reader left)) → TakesBytes left_old left reader_old.taken reader.taken → Deals
   whole_deals [] one empty dealt next took =
       let same = empty refl in
-      idle_deals same.3 (λ told text blamed at.
+      idle_deals same.3 (λ told text blamed was scripts may.
+      let at = was scripts (subst (λ (u : List (List Asking)). MayAskAll u scripts) same.1 may) in
       subst (λ (t : After). DealtOn t clients told text left to_tell reader scripts blamed) (sym same.0)
-      (subst (λ (ss : List (List Item)). IsDealingAt clients told text left to_tell reader ss blamed) (sym same.1)
-      (subst (λ (o : Option (List ℕ)). IsDealingAt clients told text left o reader scripts_old blamed) (sym same.2)
-      (empty_dealt clients told text left_old left to_tell_old reader_old reader scripts_old blamed at (next at.at.rest at.at.to_read) took))))
+      (subst (λ (o : Option (List ℕ)). IsDealingAt clients told text left o reader scripts blamed) (sym same.2)
+      (empty_dealt clients told text left_old left to_tell_old reader_old reader scripts blamed at (next at.at.rest at.at.to_read) took)))
   whole_deals (b ∷ bs) one empty dealt next took =
-      let d = dealt (omega arith) in
-      let to : Dealt = record { client = d.3; item = d.4 } in (
+      let d = dealt (omega arith) in (
         d.0,
         d.1,
-        λ told text blamed at.
-            line_dealt clients told text left_old left to_tell_old reader_old reader scripts_old blamed at b bs to d.0 d.2 to_tell scripts turn (dealt_within clients d.2 (b ∷ bs) d.0 to one d.6)
-            (next at.at.rest at.at.to_read) took d.5 d.6 d.7 d.8,
+        λ told text blamed was scripts may.
+            let back = given_back d.3 d.4 unread_old unread turn scripts d.8 may in
+            let at = was back.0 back.2 in
+            let to : Dealt = record { client = d.3; item = back.1 } in
+            let is = d.6 back.1 back.3 in
+            line_dealt clients told text left_old left to_tell_old reader_old reader back.0 blamed at b bs to d.0 d.2 to_tell scripts turn (dealt_within clients d.2 (b ∷ bs) d.0 to one is)
+            (next at.at.rest at.at.to_read) took d.5 is d.7 back.4,
       )
 
   -- One was read that is.
   pub long_deals : (size moment : ℕ) → 1 ≤ clients → line_limit < size → refused [] → IsNextMoment to_tell_old moment → to_tell ≡ after_moment to_tell_old
-      → IsGiven 0 (Err (TooLong size)) scripts_old scripts turn
+      → IsGiven 0 (Read (Err (TooLong size))) unread_old unread turn
       → ((rest : List ℕ) → IsToRead reader_old left_old rest → (line : List ℕ) × IsNextLine rest line (IsToRead reader left) × (size ≡ length line))
       → TakesBytes left_old left reader_old.taken reader.taken → Deals
   long_deals size moment one long none at_moment later given next took = (
     [],
     none,
-    λ told text blamed at.
+    λ told text blamed was scripts may.
+        let back = given_back 0 (Read (Err (TooLong size))) unread_old unread turn scripts given may in
+        let at = was back.0 back.2 in
         let line = next at.at.rest at.at.to_read in
-        long_line told text blamed at line.0 line.1 line.2,
+        long_line told text blamed scripts back.0 back.1 at line.0 line.1 line.2 back.3 back.4,
   )
     where
-      long_line : (told : Option (List ℕ)) (text : List ℕ) (blamed : List (List ℕ)) (at : IsDealingAt clients told text left_old to_tell_old reader_old scripts_old blamed) (line : List ℕ)
-          → IsNextLine at.at.rest line (IsToRead reader left) → size ≡ length line → DealtOn turn clients told text left to_tell reader scripts (blamed ++ [])
-      long_line told text blamed at [] is_next as_long = absurd (omega (arith, long, as_long))
-      long_line told text blamed at (b ∷ bs) is_next as_long =
-          let to : Dealt = record { client = 0; item = Err (TooLong size) } in
-          line_dealt clients told text left_old left to_tell_old reader_old reader scripts_old blamed at b bs to [] moment to_tell scripts turn one is_next took at_moment
-          (too_long (subst (λ (n : ℕ). line_limit < n) as_long long) (ap (λ (n : ℕ). record { client = 0; item = Err (TooLong n) }) as_long) refl) later given
+      long_line : (told : Option (List ℕ)) (text : List ℕ) (blamed : List (List ℕ)) (scripts before : List (List Item)) (item : Item) (at : IsDealingAt clients told text left_old to_tell_old reader_old before blamed) (line : List ℕ)
+          → IsNextLine at.at.rest line (IsToRead reader left) → size ≡ length line → item ≡ Err (TooLong size) → IsGiven 0 item before scripts turn → DealtOn turn clients told text left to_tell reader scripts (blamed ++ [])
+      long_line told text blamed scripts before item at [] is_next as_long is back = absurd (omega (arith, long, as_long))
+      long_line told text blamed scripts before item at (b ∷ bs) is_next as_long is back =
+          let to : Dealt = record { client = 0; item = item } in
+          line_dealt clients told text left_old left to_tell_old reader_old reader before blamed at b bs to [] moment to_tell scripts turn one is_next took at_moment
+          (too_long (subst (λ (n : ℕ). line_limit < n) as_long long) (ap (λ (i : Item). record { client = 0; item = i }) (is ∙ ap (λ (n : ℕ). Err (TooLong n)) as_long)) refl) later back
 
 -- ---- how a turn ends in which a line is dealt
 
@@ -298,21 +307,42 @@ module _ (turn : After) (ends : (turn ≡ after.Line) ⊎ (turn ≡ after.Ending
 
 module _ (clients : ℕ) (told : Option (List ℕ)) (source : Option (List ℕ)) where
   -- What turns came to, of which this was the last, where the maker refused these texts.
-  abbrev pub HaveDealt : (left to_tell : Option (List ℕ)) → Reader → List (List Item) → After → List (List ℕ) → Type 0
-  HaveDealt left to_tell reader scripts turn blamed = (text : List ℕ) → source ≡ Some text → DealtOn turn clients told text left to_tell reader scripts blamed
+  abbrev pub HaveDealt : (left to_tell : Option (List ℕ)) → Reader → List (List Asking) → After → List (List ℕ) → Type 0
+  HaveDealt left to_tell reader unread turn blamed = (text : List ℕ) → source ≡ Some text → AreDealtOn turn clients told text left to_tell reader unread blamed
 
-  pub dealt_begin : (reader : Reader) (scripts : List (List Item)) → ((text : List ℕ) → IsToRead reader (Some text) text) → reader.taken ≡ 0 → scripts ≡ replicate clients []
-      → HaveDealt source told reader scripts after.Line []
-  dealt_begin reader scripts to_read none_taken none text is = deals_begin clients told text source reader scripts is (to_read text) none_taken none
+  pub dealt_begin : (reader : Reader) (unread : List (List Asking)) → ((text : List ℕ) → IsToRead reader (Some text) text) → reader.taken ≡ 0 → unread ≡ replicate clients []
+      → HaveDealt source told reader unread after.Line []
+  dealt_begin reader unread to_read none_taken none text is scripts may =
+      deals_begin clients told text source reader scripts is (to_read text) none_taken (none_asked clients scripts (subst (λ (u : List (List Asking)). MayAskAll u scripts) none may))
 
   -- One more.
-  pub dealt_then : (left_old left told_between to_tell : Option (List ℕ)) (reader_old reader : Reader) (scripts_old scripts : List (List Item)) (turn last : After) (blamed more : List (List ℕ)) → turn ≡ last
-      → HaveDealt left_old told_between reader_old scripts_old after.Line blamed
-      → ((began : Option (List ℕ)) (text : List ℕ) (before : List (List ℕ)) → IsDealingAt clients began text left_old told_between reader_old scripts_old before
-      → DealtOn turn clients began text left to_tell reader scripts (before ++ more))
-      → HaveDealt left to_tell reader scripts last (blamed ++ more)
-  dealt_then left_old left told_between to_tell reader_old reader scripts_old scripts turn last blamed more ends_so was on text is =
-      subst (λ (t : After). DealtOn t clients told text left to_tell reader scripts (blamed ++ more)) ends_so (on told text blamed (was text is))
+  pub dealt_then : (left_old left told_between to_tell : Option (List ℕ)) (reader_old reader : Reader) (unread_old unread : List (List Asking)) (turn last : After) (blamed more : List (List ℕ)) → turn ≡ last
+      → HaveDealt left_old told_between reader_old unread_old after.Line blamed
+      → ((began : Option (List ℕ)) (text : List ℕ) (before : List (List ℕ)) → AreDealtOn after.Line clients began text left_old told_between reader_old unread_old before
+      → AreDealtOn turn clients began text left to_tell reader unread (before ++ more))
+      → HaveDealt left to_tell reader unread last (blamed ++ more)
+  dealt_then left_old left told_between to_tell reader_old reader unread_old unread turn last blamed more ends_so was on text is =
+      subst (λ (t : After). AreDealtOn t clients told text left to_tell reader unread (blamed ++ more)) ends_so (on told text blamed (was text is))
+
+-- The run stops where it stopped, whatever the pushes ask that were dealt.
+pub stopped_so : (clients : ℕ) (told : Option (List ℕ)) (text : List ℕ) (left to_tell : Option (List ℕ)) (reader : Reader) (unread : List (List Asking)) (ended : Ending) (blamed : List (List ℕ))
+    → AreDealtOn (after.Ending ended) clients told text left to_tell reader unread blamed → HasStopped clients told text left to_tell ended blamed
+stopped_so clients told text left to_tell reader unread ended blamed h = let some = some_scripts unread in h some.0 some.1
+
+-- The run stops after the last line, before what was dealt is read.
+pub stops_last : (clients : ℕ) (told : Option (List ℕ)) (text : List ℕ) (left to_tell : Option (List ℕ)) (unread : List (List Asking)) (blamed : List (List ℕ))
+    → ((asked : List (List Item)) → MayAskAll unread asked → HasDealt clients told text to_tell asked blamed) → HasStopped clients told text left to_tell Starved blamed
+stops_last clients told text left to_tell unread blamed h =
+    let some = some_scripts unread in
+    let all = h some.0 some.1 in record {
+      read = lines text;
+      later = [];
+      lines_are = sym (append-nil (lines text));
+      dealt = all.dealt;
+      are_dealt = all.are_dealt;
+      clock = all.clock;
+      read_to = tt;
+    }
 
 -- The run stops before the first line.
 pub stops_first : (clients : ℕ) (told : Option (List ℕ)) (text : List ℕ) (left : Option (List ℕ)) → HasStopped clients told text left told Starved []
@@ -346,18 +376,18 @@ moved_all all moved one two cuts joins none first second =
     ∙ ap (λ (m : List (List Item)). m ++ cuts ∷ joins ∷ []) (sym (none ∙ append-nil moved))
 
 -- One more was made.
-pub made_one : (old new : List (Vec Item Global)) (n : ℕ) (script : Vec Item Global) → scripts_in old ≡ replicate n [] → new ≡ old ++ script ∷ [] → script.items ≡ [] → scripts_in new ≡ replicate (n + 1) []
+pub made_one : (old new : List (Vec Asking Global)) (n : ℕ) (script : Vec Asking Global) → scripts_in old ≡ replicate n [] → new ≡ old ++ script ∷ [] → script.items ≡ [] → scripts_in new ≡ replicate (n + 1) []
 made_one old new n script was added none =
     ap scripts_in added
-    ∙ map-append (λ (s : Vec Item Global). s.items) old (script ∷ [])
-    ∙ ap₂ (λ (o : List (List Item)) (s : List Item). o ++ s ∷ []) was none
+    ∙ map-append (λ (s : Vec Asking Global). s.items) old (script ∷ [])
+    ∙ ap₂ (λ (o : List (List Asking)) (s : List Asking). o ++ s ∷ []) was none
     ∙ replicate_more n []
 
 -- A script of one client was put in the place of its old one.
-pub put_one : (old new : List (Vec Item Global)) (client : ℕ) (before after : Vec Item Global) (item : Item) → client < length old → before ≡ get_or old client before → new ≡ slice_set old client after
-    → after.items ≡ before.items ++ item ∷ [] → scripts_in new ≡ slice_set (scripts_in old) client (get_or (scripts_in old) client [] ++ item ∷ [])
-put_one old new client before after item within was set more =
-    let read : get_or (scripts_in old) client [] ≡ before.items = get_or-map (λ (s : Vec Item Global). s.items) old client before [] within ∙ ap (λ (s : Vec Item Global). s.items) (sym was) in
+pub put_one : (old new : List (Vec Asking Global)) (client : ℕ) (before after : Vec Asking Global) (asking : Asking) → client < length old → before ≡ get_or old client before → new ≡ slice_set old client after
+    → after.items ≡ before.items ++ asking ∷ [] → scripts_in new ≡ slice_set (scripts_in old) client (get_or (scripts_in old) client [] ++ asking ∷ [])
+put_one old new client before after asking within was set more =
+    let read : get_or (scripts_in old) client [] ≡ before.items = get_or-map (λ (s : Vec Asking Global). s.items) old client before [] within ∙ ap (λ (s : Vec Asking Global). s.items) (sym was) in
     ap scripts_in set
-    ∙ map-set (λ (s : Vec Item Global). s.items) old client after
-    ∙ ap (λ (xs : List Item). slice_set (scripts_in old) client xs) (more ∙ ap (λ (xs : List Item). xs ++ item ∷ []) (sym read))
+    ∙ map-set (λ (s : Vec Asking Global). s.items) old client after
+    ∙ ap (λ (xs : List Asking). slice_set (scripts_in old) client xs) (more ∙ ap (λ (xs : List Asking). xs ++ asking ∷ []) (sym read))

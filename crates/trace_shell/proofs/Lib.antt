@@ -8,6 +8,7 @@ pub mod IngestReads
 pub mod IngestWindows
 pub mod IngestEnds
 pub mod DrillLemmas
+pub mod AskingLemmas
 pub mod DealingLemmas
 pub mod NumberLemmas
 pub mod UpkeepLemmas

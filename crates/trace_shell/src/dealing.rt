@@ -1,30 +1,38 @@
 //! The lines of a source are read to its end and dealt to clients, and the requests that keep a store up are written
 //! down after them. Nothing is asked of a store here.
+//!
+//! A push takes long to read, so it is dealt as it stands, and the pushes of each client are read at last, in threads.
 
-ghost use Rattle.std.specs.Prelude.{◌≡◌, ◌⊎◌, ◌+◌, ◌*◌, ◌<◌, ◌≤◌, ◌++◌, ℕ, List, [], ◌∷◌, Option, Some, Ok, IfErr, IfNone, IfOk, IfSome, MatchResult, OnErr, decimal, length, replicate, vec_capacity, vec_len};
+ghost use Rattle.std.specs.Prelude.{◌≡◌, ◌⊎◌, ◌+◌, ◌*◌, ◌<◌, ◌≤◌, ◌++◌, ℕ, List, [], ◌∷◌, Option, Some, Ok, IfErr, IfNone, IfOk, IfSome, MatchResult, OnErr, codes, decimal, drop, length, replicate, vec_capacity, vec_len};
 ghost use Rattle.span_types.specs.Faults.{Rose};
 ghost use Rattle.io_edges.specs.Lines.{line_limit, taken_limit};
 ghost use Rattle.io_edges.specs.Reader.{TakesBytes, to_come};
+ghost use Rattle.line_windows.specs.Asking.{MayAsk};
+ghost use Rattle.line_windows.specs.declared.asking.Asking.{Asking as AsAsking};
 ghost use Rattle.session_meaning.specs.declared.ending.Ending.TheVariants.{ReadFault, Spent};
 ghost use Rattle.session_meaning.specs.Asked.{IsNextMoment, after_moment};
 ghost use Rattle.session_text.specs.Items.{Item as AsItem};
 ghost use Rattle.session_meaning.specs.Serving.{AreCuts, IsDealt, IsFrom, after_moments, compactions};
 ghost use Rattle.traceql_types.specs.Makers.{RefusesOnly};
-ghost use Rattle.trace_shell.specs.Dealing.{DealtOn, HasDealt, HasStopped, IsDealingAt, IsEarly, IsGiven, scripts_in};
+ghost use Rattle.trace_shell.specs.Dealing.{AreDealtOn, HasDealt, HasStopped, IsEarly, IsGiven, MayAskAll, scripts_in};
 ghost use Rattle.trace_shell.specs.Ingesting.{ending_in};
+ghost use Rattle.trace_shell.specs.declared.ingesting.After.TheVariants.{Line as on};
 
 use crate::ingesting::After;
 use client_scripts::{Item, Scripts};
-use io_edges::{Clock, Line, LineError, LineReader, Source};
+use io_edges::{Clock, Line, LineError, LineReader, Source, Text8};
+use line_windows::{Asking, UnreadPush, read_script};
 use session_meaning::Ending;
 use session_text::{Refusal, Request, read_request};
 use span_types::{Memory, Seq};
 use std::alloc::Global;
+use std::thread::Threads;
 use traceql_types::PatternMaker;
 
 /// Reads the lines of a source to its end, and deals them to so many clients: `c request` to client `c`. Each is read at
 /// the clock's next moment. Gives what each client asks, or how the run ends before anything is asked.
-pub(crate) fn read_scripts<S: Source, C: Clock, P: PatternMaker>(
+pub(crate) fn read_scripts<R: Threads + Sync, S: Source, C: Clock, P: PatternMaker>(
+    rt: &R,
     alloc: Global,
     clients: u32,
     source: &mut S,
@@ -37,6 +45,57 @@ pub(crate) fn read_scripts<S: Source, C: Clock, P: PatternMaker>(
         × ((text : List ℕ) → S.left source.old ≡ Some text → MatchResult result
         (λ scripts. HasDealt clients (C.moments clock.old) text (C.moments clock.new)
         (scripts_in scripts.items) blamed)
+        (λ ending. HasStopped clients (C.moments clock.old) text (S.left source.new)
+        (C.moments clock.new) ending blamed)) }
+    ensures as_many { IfOk result (λ scripts. vec_len scripts ≡ clients) }
+    ensures early { IfErr result IsEarly }
+    ensures read_fault { IfErr result (λ ending. ending ≡ ReadFault
+        → Rose (S.faults source.old) (S.faults source.new)) }
+    ensures spent { IfErr result (λ ending. ending ≡ Spent
+        → TakesBytes (S.left source.old) (S.left source.new) 0 taken_limit) }
+{
+    let scripts = match deal_all(alloc, clients, source, clock, patterns) {
+        Ok(scripts) => scripts,
+        Err(ending) => return Err(ending),
+    };
+    match read_pushes(rt, alloc, scripts) {
+        Ok(scripts) => Ok(scripts),
+        Err(Memory) => Err(Ending::Starved),
+    }
+}
+
+// Reads the pushes of the scripts in threads, script by script.
+fn read_pushes<R: Threads + Sync>(
+    rt: &R,
+    alloc: Global,
+    scripts: Vec<Vec<Asking>>,
+) -> Result<Vec<Vec<Item>>, Memory>
+    ensures asked { IfOk result (λ read. MayAskAll (scripts_in scripts.items)
+        (scripts_in read.items)) }
+    ensures as_many { IfOk result (λ read. vec_len read ≡ vec_len scripts) }
+{
+    let mut read = Vec::new(alloc);
+    for script in scripts {
+        let items = read_script(rt, alloc, script)?;
+        read.push(items)?;
+    }
+    Ok(read)
+}
+
+// Reads the lines and deals them, but for the pushes, which are dealt as they stand.
+fn deal_all<S: Source, C: Clock, P: PatternMaker>(
+    alloc: Global,
+    clients: u32,
+    source: &mut S,
+    clock: &mut C,
+    patterns: &mut P,
+) -> Result<Vec<Vec<Asking>>, Ending>
+    requires one { 1 ≤ clients }
+    requires few { clients ≤ 16 }
+    ensures dealt { (blamed : List (List ℕ)) × RefusesOnly P.makes patterns.old patterns.new blamed
+        × ((text : List ℕ) → S.left source.old ≡ Some text → MatchResult result
+        (λ scripts. (asked : List (List AsItem)) → MayAskAll (scripts_in scripts.items) asked
+        → HasDealt clients (C.moments clock.old) text (C.moments clock.new) asked blamed)
         (λ ending. HasStopped clients (C.moments clock.old) text (S.left source.new)
         (C.moments clock.new) ending blamed)) }
     ensures as_many { IfOk result (λ scripts. vec_len scripts ≡ clients) }
@@ -68,7 +127,7 @@ pub(crate) fn read_scripts<S: Source, C: Clock, P: PatternMaker>(
 }
 
 // So many scripts that ask nothing.
-fn empty_scripts(alloc: Global, clients: u32) -> Result<Vec<Vec<Item>>, Memory>
+fn empty_scripts(alloc: Global, clients: u32) -> Result<Vec<Vec<Asking>>, Memory>
     ensures none { IfOk result (λ scripts. scripts_in scripts.items ≡ replicate clients []) }
     ensures as_many { IfOk result (λ scripts. vec_len scripts ≡ clients) }
 {
@@ -87,16 +146,16 @@ fn deal_next<S: Source, C: Clock, P: PatternMaker>(
     clock: &mut C,
     patterns: &mut P,
     clients: u32,
-    scripts: &mut Vec<Vec<Item>>,
+    scripts: &mut Vec<Vec<Asking>>,
 ) -> After
     requires one { 1 ≤ clients }
     requires few { clients ≤ 16 }
     requires as_many { vec_len scripts.old ≡ clients }
     ensures dealt { (more : List (List ℕ)) × RefusesOnly P.makes patterns.old patterns.new more
         × ((told : Option (List ℕ)) (text : List ℕ) (blamed : List (List ℕ))
-        → IsDealingAt clients told text (S.left source.old) (C.moments clock.old) reader.old
+        → AreDealtOn on clients told text (S.left source.old) (C.moments clock.old) reader.old
         (scripts_in scripts.old.items) blamed
-        → DealtOn result clients told text (S.left source.new) (C.moments clock.new) reader.new
+        → AreDealtOn result clients told text (S.left source.new) (C.moments clock.new) reader.new
         (scripts_in scripts.new.items) (blamed ++ more)) }
     ensures as_many { vec_len scripts.new ≡ clients }
     ensures nearer { result ≡ After.Line → to_come reader.new < to_come reader.old }
@@ -115,13 +174,12 @@ fn deal_next<S: Source, C: Clock, P: PatternMaker>(
         Err(LineError::Memory) => return After::Ending(Ending::Starved),
     };
     match line {
-        Line::Whole(bytes) => {
-            deal_line(alloc, clock, patterns, clients, scripts, bytes.as_slice())
-        }
+        Line::Whole(bytes) => deal_line(alloc, clock, patterns, clients, scripts, bytes),
         Line::TooLong { length } => {
             // A line that is refused unread takes a moment of the clock like any other.
             let _moment = clock.now();
-            give(scripts, 0, Err(Refusal::TooLong { length }))
+            let refused = Err(Refusal::TooLong { length });
+            give(scripts, 0, Asking::Read(refused))
         }
         Line::End => After::End,
         Line::Spent { .. } => After::Ending(Ending::Spent),
@@ -134,30 +192,73 @@ fn deal_line<C: Clock, P: PatternMaker>(
     clock: &mut C,
     patterns: &mut P,
     clients: u32,
-    scripts: &mut Vec<Vec<Item>>,
-    line: &[u8],
+    scripts: &mut Vec<Vec<Asking>>,
+    line: Text8,
 ) -> After
     requires one { 1 ≤ clients }
     requires few { clients ≤ 16 }
     requires as_many { vec_len scripts.old ≡ clients }
-    requires short { length line.now ≤ line_limit }
-    ensures empty { line.now ≡ [] → (result ≡ After.Line) × (scripts.new ≡ scripts.old)
+    requires short { length line ≤ line_limit }
+    ensures empty { line ≡ [] → (result ≡ After.Line) × (scripts.new ≡ scripts.old)
         × (clock.new ≡ clock.old) × (patterns.new ≡ patterns.old) }
-    ensures dealt { 0 < length line.now → (more : List (List ℕ))
+    ensures dealt { 0 < length line → (more : List (List ℕ))
         × RefusesOnly P.makes patterns.old patterns.new more
-        × (moment client : ℕ) × (item : AsItem) × IsNextMoment (C.moments clock.old) moment
-        × IsDealt clients moment line.now more (record { client = client; item = item })
+        × (moment client : ℕ) × (asking : AsAsking) × IsNextMoment (C.moments clock.old) moment
+        × ((item : AsItem) → MayAsk asking item
+        → IsDealt clients moment line more (record { client = client; item = item }))
         × (C.moments clock.new ≡ after_moment (C.moments clock.old))
-        × IsGiven client item (scripts_in scripts.old.items) (scripts_in scripts.new.items) result }
+        × IsGiven client asking (scripts_in scripts.old.items)
+        (scripts_in scripts.new.items) result }
     ensures as_many { vec_len scripts.new ≡ clients }
     ensures turned { (result ≡ After.Line) ⊎ (result ≡ After.Ending Ending.Starved) }
 {
-    if line.is_empty() {
+    if line.len() == 0 {
         return After::Line;
     }
     let moment = clock.now();
-    let (client, item) = item_of(alloc, patterns, clients, line, moment);
-    give(scripts, client, item)
+    let (client, asking) = asking_of(alloc, patterns, clients, line, moment);
+    give(scripts, client, asking)
+}
+
+// To whom a line goes that was read at this moment, in nanoseconds, and what it asks, unless it is a push: that is read later.
+fn asking_of<P: PatternMaker>(
+    alloc: Global,
+    patterns: &mut P,
+    clients: u32,
+    line: Text8,
+    moment: u64,
+) -> (u32, Asking)
+    requires one { 1 ≤ clients }
+    requires few { clients ≤ 16 }
+    requires short { length line ≤ line_limit }
+    ensures dealt { (more : List (List ℕ)) × RefusesOnly P.makes patterns.old patterns.new more
+        × ((item : AsItem) → MayAsk result.1 item
+        → IsDealt clients moment line more (record { client = result.0; item = item })) }
+    ensures one { result.0 < clients }
+{
+    if let Some((client, from)) = push_in(clients, line.as_slice()) {
+        return (client, Asking::Unread(UnreadPush { line, from, moment }));
+    }
+    let (client, item) = item_of(alloc, patterns, clients, line.as_slice(), moment);
+    (client, Asking::Read(item))
+}
+
+// The client whose push a line is, and where the text begins that is pushed.
+fn push_in(clients: u32, line: &[u8]) -> Option<(u32, usize)>
+    requires { clients ≤ 16 }
+    ensures { IfSome result (λ found. IsFrom clients line.now found.0
+        (codes "push " ++ drop found.1 line.now)) }
+{
+    let (client, request) = client_of(clients, line)?;
+    let pushed = after_push(request)?;
+    Some((client, line.len() - pushed.len()))
+}
+
+// What follows the word `push` and the space that a request begins with.
+fn after_push(request: &[u8]) -> Option<&[u8]>
+    ensures { IfSome result (λ pushed. request.now ≡ codes "push " ++ pushed.now) }
+{
+    request.strip_prefix(b"push ")
 }
 
 // To whom a line goes that was read at this moment, in nanoseconds, and what it asks or why it is refused.
@@ -237,15 +338,15 @@ fn after_space(text: &[u8]) -> Option<&[u8]>
 }
 
 // Puts what a client asks after what it asked before.
-fn give(scripts: &mut Vec<Vec<Item>>, client: u32, item: Item) -> After
+fn give(scripts: &mut Vec<Vec<Asking>>, client: u32, asking: Asking) -> After
     requires { client < vec_len scripts.old }
-    ensures given { IsGiven client item (scripts_in scripts.old.items)
+    ensures given { IsGiven client asking (scripts_in scripts.old.items)
         (scripts_in scripts.new.items) result }
     ensures as_many { vec_len scripts.new ≡ vec_len scripts.old }
     ensures turned { (result ≡ After.Line) ⊎ (result ≡ After.Ending Ending.Starved) }
 {
     let script = &mut scripts[client as usize];
-    let Ok(()) = script.push(item) else {
+    let Ok(()) = script.push(asking) else {
         return After::Ending(Ending::Starved);
     };
     After::Line

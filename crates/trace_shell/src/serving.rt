@@ -207,7 +207,7 @@ fn serve<
     ensures spent { result.0 ≡ Spent
         → TakesBytes (S.left source.old) (S.left source.new) 0 taken_limit }
 {
-    let scripts = match read_scripts(alloc, clients, source, clock, patterns) {
+    let scripts = match read_scripts(rt, alloc, clients, source, clock, patterns) {
         Ok(scripts) => scripts,
         Err(ending) => return (ending, core),
     };

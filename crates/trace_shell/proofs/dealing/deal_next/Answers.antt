@@ -1,5 +1,5 @@
 use Rattle.std.proofs.Common.{◌≡◌, [], Err, ap, sym, subst}
-use Rattle.io_edges.specs.Reader.{Answers, IsNextLine, IsToRead, IsWithinLimits, WouldAsk}
+use Rattle.io_edges.specs.Reader.{Answers, IsToRead, IsWithinLimits, WouldAsk}
 use Rattle.io_edges.specs.Lines.{taken_limit}
 use Rattle.span_types.specs.Faults.{Rose}
 use Rattle.session_meaning.specs.declared.ending.Ending.TheVariants.{ReadFault, Spent, Starved}
@@ -13,7 +13,7 @@ use Rattle.trace_shell.proofs.dealing.deal_next.Goals as goal
 
 pub returns-in-Whole-clause-dealt : goal.returns-in-Whole-clause-dealt
 returns-in-Whole-clause-dealt g c =
-    whole_deals c.args.clients (λ more. RefusesOnly g.P.PatternMaker.makes c.args.patterns.now c.deal_line.new.patterns more) _ _ _ _ _ _ _ _ c.deal_line.result c.as_slice.result.now c.requires.one
+    whole_deals c.args.clients (λ more. RefusesOnly g.P.PatternMaker.makes c.args.patterns.now c.deal_line.new.patterns more) _ _ _ _ _ _ _ _ c.deal_line.result c.in-Whole.bytes c.requires.one
     (λ none.
     let same = c.deal_line.ensures.empty none in (
       same.0,
@@ -23,8 +23,7 @@ returns-in-Whole-clause-dealt g c =
     ))
     c.deal_line.ensures.dealt
     (λ rest to_read.
-    let answers = subst (λ l. Answers l rest (IsToRead c.next.new.self (g.S.Source.left c.next.new.source))) c.in-Whole.is (c.in-Ok.ensures.line rest to_read) in
-    subst (λ bytes. IsNextLine rest bytes (IsToRead c.next.new.self (g.S.Source.left c.next.new.source))) (sym c.as_slice.ensures) answers)
+    subst (λ l. Answers l rest (IsToRead c.next.new.self (g.S.Source.left c.next.new.source))) c.in-Whole.is (c.in-Ok.ensures.line rest to_read))
     c.next.ensures.took
 
 pub returns-in-Whole-clause-early : goal.returns-in-Whole-clause-early
@@ -57,32 +56,36 @@ pub returns-in-End-clause-dealt : goal.returns-in-End-clause-dealt
 returns-in-End-clause-dealt g c =
     idle_deals c.args.clients (λ more. RefusesOnly g.P.PatternMaker.makes c.args.patterns.now c.args.patterns.now more) (g.S.Source.left c.args.source.now) (g.S.Source.left c.next.new.source) (g.C.Clock.moments c.args.clock.now) (g.C.Clock.moments c.args.clock.now) c.args.reader.now c.next.new.self (scripts_in c.args.scripts.now.items) (scripts_in c.args.scripts.now.items) End
     (refuses-none g.P.PatternMaker.makes _ c.args.patterns.now c.args.patterns.now)
-    (λ told text blamed at.
+    (λ told text blamed was scripts may.
+    let at = was scripts may in
     let answers = subst (λ l. Answers l at.at.rest (IsToRead c.next.new.self (g.S.Source.left c.next.new.source))) c.in-End.is (c.in-Ok.ensures.line at.at.rest at.at.to_read) in
     let fewer = subst (λ l. IsWithinLimits l c.next.new.self.taken) c.in-End.is c.in-Ok.ensures.limits in
-    all_dealt c.args.clients told text (g.S.Source.left c.args.source.now) (g.S.Source.left c.next.new.source) (g.C.Clock.moments c.args.clock.now) c.args.reader.now c.next.new.self (scripts_in c.args.scripts.now.items) blamed at (reads_all text at.read _ _ _ c.next.new.self at.at answers fewer c.next.ensures.took))
+    all_dealt c.args.clients told text (g.S.Source.left c.args.source.now) (g.S.Source.left c.next.new.source) (g.C.Clock.moments c.args.clock.now) c.args.reader.now c.next.new.self scripts blamed at (reads_all text at.read _ _ _ c.next.new.self at.at answers fewer c.next.ensures.took))
 
 pub returns-in-Spent-clause-dealt : goal.returns-in-Spent-clause-dealt
 returns-in-Spent-clause-dealt g c =
     idle_deals c.args.clients (λ more. RefusesOnly g.P.PatternMaker.makes c.args.patterns.now c.args.patterns.now more) (g.S.Source.left c.args.source.now) (g.S.Source.left c.next.new.source) (g.C.Clock.moments c.args.clock.now) (g.C.Clock.moments c.args.clock.now) c.args.reader.now c.next.new.self (scripts_in c.args.scripts.now.items) (scripts_in c.args.scripts.now.items) (Ending Spent)
     (refuses-none g.P.PatternMaker.makes _ c.args.patterns.now c.args.patterns.now)
-    (λ told text blamed at.
+    (λ told text blamed was scripts may.
+    let at = was scripts may in
     let answers = subst (λ l. Answers l at.at.rest (IsToRead c.next.new.self (g.S.Source.left c.next.new.source))) c.in-Spent.is (c.in-Ok.ensures.line at.at.rest at.at.to_read) in
     let all = subst (λ l. IsWithinLimits l c.next.new.self.taken) c.in-Spent.is c.in-Ok.ensures.limits in
     let waiting = subst (λ l. WouldAsk l c.next.new.self) c.in-Spent.is c.in-Ok.ensures.spent in
-    stops_here c.args.clients told text (g.S.Source.left c.args.source.now) (g.S.Source.left c.next.new.source) (g.C.Clock.moments c.args.clock.now) c.args.reader.now c.next.new.self (scripts_in c.args.scripts.now.items) blamed at Spent (reads_spent text at.read _ _ _ c.next.new.self at.at all.1 c.next.ensures.took answers waiting))
+    stops_here c.args.clients told text (g.S.Source.left c.args.source.now) (g.S.Source.left c.next.new.source) (g.C.Clock.moments c.args.clock.now) c.args.reader.now c.next.new.self scripts blamed at Spent (reads_spent text at.read _ _ _ c.next.new.self at.at all.1 c.next.ensures.took answers waiting))
 
 pub returns-in-Err-Fault-clause-dealt : goal.returns-in-Err-Fault-clause-dealt
 returns-in-Err-Fault-clause-dealt g c =
     idle_deals c.args.clients (λ more. RefusesOnly g.P.PatternMaker.makes c.args.patterns.now c.args.patterns.now more) (g.S.Source.left c.args.source.now) (g.S.Source.left c.next.new.source) (g.C.Clock.moments c.args.clock.now) (g.C.Clock.moments c.args.clock.now) c.args.reader.now c.next.new.self (scripts_in c.args.scripts.now.items) (scripts_in c.args.scripts.now.items) (Ending ReadFault)
     (refuses-none g.P.PatternMaker.makes _ c.args.patterns.now c.args.patterns.now)
-    (λ told text blamed at.
-    stops_here c.args.clients told text (g.S.Source.left c.args.source.now) (g.S.Source.left c.next.new.source) (g.C.Clock.moments c.args.clock.now) c.args.reader.now c.next.new.self (scripts_in c.args.scripts.now.items) blamed at ReadFault
+    (λ told text blamed was scripts may.
+    let at = was scripts may in
+    stops_here c.args.clients told text (g.S.Source.left c.args.source.now) (g.S.Source.left c.next.new.source) (g.C.Clock.moments c.args.clock.now) c.args.reader.now c.next.new.self scripts blamed at ReadFault
     (reads_failed text at.read _ _ _ c.next.new.self at.at (c.in-Err-Fault.ensures.stands at.at.rest at.at.to_read) (c.in-Err-Fault.ensures.waiting (ap Err c.in-Err-Fault.field-0-is))))
 
 pub returns-in-Err-Memory-clause-dealt : goal.returns-in-Err-Memory-clause-dealt
 returns-in-Err-Memory-clause-dealt g c =
     idle_deals c.args.clients (λ more. RefusesOnly g.P.PatternMaker.makes c.args.patterns.now c.args.patterns.now more) (g.S.Source.left c.args.source.now) (g.S.Source.left c.next.new.source) (g.C.Clock.moments c.args.clock.now) (g.C.Clock.moments c.args.clock.now) c.args.reader.now c.next.new.self (scripts_in c.args.scripts.now.items) (scripts_in c.args.scripts.now.items) (Ending Starved)
     (refuses-none g.P.PatternMaker.makes _ c.args.patterns.now c.args.patterns.now)
-    (λ told text blamed at.
-    stops_here c.args.clients told text (g.S.Source.left c.args.source.now) (g.S.Source.left c.next.new.source) (g.C.Clock.moments c.args.clock.now) c.args.reader.now c.next.new.self (scripts_in c.args.scripts.now.items) blamed at Starved (reads_starved text at.read _ (g.S.Source.left c.next.new.source) _ at.at))
+    (λ told text blamed was scripts may.
+    let at = was scripts may in
+    stops_here c.args.clients told text (g.S.Source.left c.args.source.now) (g.S.Source.left c.next.new.source) (g.C.Clock.moments c.args.clock.now) c.args.reader.now c.next.new.self scripts blamed at Starved (reads_starved text at.read _ (g.S.Source.left c.next.new.source) _ at.at))

@@ -5,7 +5,7 @@ use Rattle.traceql_types.specs.Makers.{RefusesOnly}
 use Rattle.trace_shell.specs.Dealing.{scripts_in}
 use Rattle.trace_shell.specs.declared.ingesting.After.TheVariants.{Line}
 use Rattle.trace_shell.proofs.DealingLemmas.{HaveDealt}
-use Rattle.trace_shell.proofs.dealing.read_scripts.Given as goal
+use Rattle.trace_shell.proofs.dealing.deal_all.Given as goal
 
 abbrev pub invariant-lines : goal.invariant-lines
 invariant-lines g l = record {

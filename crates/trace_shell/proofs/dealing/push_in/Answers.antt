@@ -1,0 +1,1 @@
+use Rattle.trace_shell.proofs.dealing.push_in.Goals as goal
