@@ -9,7 +9,7 @@
 //! - `failing`, `stopping`: a session of which each call of the disk fails, or stops it, and what is there when the store
 //!   is opened again. `script` has its lines, and what is told of a store of so many pushes. `failing_queries`: a page of a query
 //!   can't be read.
-//! - `serve_texts`, `serve_together`, `serve_orders`, `serve_gate`, `serve_faults`: one client and several. No clause says that their
+//! - `serve_texts`, `serve_pushes`, `serve_together`, `serve_orders`, `serve_gate`, `serve_faults`: one client and several. No clause says that their
 //!   threads come to an end, and in which order they are answered.
 #![tactic(auto)]
 
@@ -39,6 +39,8 @@ mod serve_faults;
 mod serve_gate;
 #[cfg(test)]
 mod serve_orders;
+#[cfg(test)]
+mod serve_pushes;
 #[cfg(test)]
 mod serve_texts;
 #[cfg(test)]

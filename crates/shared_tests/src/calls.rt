@@ -25,7 +25,7 @@ static RECLAIM: [Steps; 1] = [(Step::Reclaim, 1)];
 
 static CUT_PUSH: [Steps; 2] = [(Step::Push, 1), (Step::CutAll, 1)];
 
-static FLUSH_BEGINS: [Steps; 3] = [(Step::Push, 1), (Step::CutAll, 1), (Step::Begin, 1)];
+static BEGIN: [Steps; 1] = [(Step::Begin, 1)];
 
 static BLOCK: [Steps; 3] = [(Step::Push, 1), (Step::CutAll, 1), (Step::Flush, 1)];
 
@@ -167,7 +167,7 @@ fn one_flush() -> Plans {
         before: plan_of(&CUT_PUSH, 1, EVEN),
         first: plan_of(&FIFTY, 1, ODD),
         second: plan_of(&BEGINS, 1, Batches::Empty),
-        last: plan_of(&FLUSH_BEGINS, 1, EVEN),
+        last: plan_of(&BEGIN, 1, Batches::Empty),
     }
 }
 
@@ -177,7 +177,7 @@ fn is_busy<R: Threads + Wait + Sync>(rt: &R, alloc: Global) -> Option<bool> {
     let played = play_out(rt, alloc, MemDisk::empty(alloc), &one_flush())?;
     let logs = &played.logs;
     let busy = times(&logs.second, BUSY) == 50 && times(&logs.last, Said::Job(2)) == 1;
-    Some(busy && goes_on(&logs.first))
+    Some(busy && goes_on(&logs.first) && played.closed.as_of == 51)
 }
 
 #[test]

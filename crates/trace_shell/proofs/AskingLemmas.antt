@@ -80,7 +80,7 @@ pub read_one : (all : List (Vec (Asking) Global)) (done : List (List Asking)) (r
 read_one all done read new script items rest later was next may asks_so added = (
   was ∙ ap (λ (r : List (Vec Asking Global)). done ++ scripts_in r) next ∙ sym (append_assoc done (script.items ∷ []) (scripts_in later)),
   subst (λ (n : List (List Item)). MayAskAll (done ++ script.items ∷ []) n) (sym (ap scripts_in added ∙ in_more read items))
-  (zip_more (AllZip MayAsk) done script.items (scripts_in read) items.items may asks_so),
+      (zip_more (AllZip MayAsk) done script.items (scripts_in read) items.items may asks_so),
 )
   where
     in_more : (vs : List (Vec Item Global)) (v : Vec Item Global) → scripts_in (vs ++ v ∷ []) ≡ scripts_in vs ++ v.items ∷ []
@@ -91,7 +91,8 @@ read_one all done read new script items rest later was next may asks_so added = 
 
 -- What a push asks that is read by itself is what its request asks.
 request_so : (moment : ℕ) (json : List ℕ) (item : Item) → length (codes "push " ++ json) ≤ line_limit → length json ≤ line_limit → AsksPush moment json item → AsksAt moment (codes "push " ++ json) [] item
-request_so moment json item short fits asks_so = unfolding line_of in rw (within _ short) (rw (within _ fits) at asks_so)
+unfolding line_of
+request_so moment json item short fits asks_so = rw (within _ short) (rw (within _ fits) at asks_so)
   where
     within : (n : ℕ) → n ≤ line_limit → nat_le n line_limit ≡ true
     within n h = grind arith
