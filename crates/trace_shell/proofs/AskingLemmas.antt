@@ -1,5 +1,5 @@
 -- What scripts may ask of which the pushes aren't read yet.
-use Rattle.std.proofs.Common.{◌≡◌, ℕ, zero, suc, ◌+◌, ◌-◌, ◌<◌, ◌≤◌, List, [], ◌∷◌, ◌++◌, Vec, Global, ap, ◌∙◌, append_assoc, append-nil, arith, codes, length, length-append, map, nat_le, refl, subst, sym}
+use Rattle.std.proofs.Common.{◌≡◌, ℕ, zero, suc, ◌+◌, ◌-◌, ◌<◌, ◌≤◌, List, [], ◌∷◌, ◌++◌, Vec, Global, ap, ◌∙◌, append_assoc, append-nil, arith, codes, length, length-append, map, nat_le, true, refl, subst, sym}
 use Rattle.std.specs.Prelude.{decimal, drop, get_or, replicate, slice_set}
 use Rattle.std.specs.List.{AllZip}
 use Rattle.io_edges.specs.Lines.{line_limit}
@@ -101,7 +101,7 @@ pub push_dealt : (clients client moment from : ℕ) (line : List ℕ) (item : It
     → IsDealt clients moment line [] (record { client = client; item = item })
 push_dealt clients client moment from line item short is asked =
     let json = drop from line in
-    let long : length line ≡ length (decimal client) + suc (5 + length json) = ap length is.line_is ∙ length-append (decimal client) (32 ∷ codes "push " ++ json) in
+    let long : length line ≡ length (decimal client) + suc (suc (suc (suc (suc (suc (length json)))))) = ap length is.line_is ∙ length-append (decimal client) (32 ∷ codes "push " ++ json) in
     asks (codes "push " ++ json) short is (request_so moment json item (omega (arith, short, long)) (omega (arith, short, long)) asked)
 
 -- Where the text begins that is pushed.

@@ -1,1 +1,0 @@
-use Rattle.trace_shell.proofs.dealing.push_in.Goals as goal
