@@ -152,4 +152,4 @@ module _ {C : Type 0} (m : Meaning C) (key : C) where
 
 pub of_core : {D : Type 0} (g : Ghosts D) (key : Core D) (s : State (Option (Core D)) (Known (Core D))) → IsKept (port_of g) key s
     → (one : SeeOneHistory (port_of g) key s) × AreCallsOf g key one.history one.port
-of_core g key s k = (see_one (port_of g) key s k, are_calls g key k.core k.entries k.made)
+of_core g key s k = let one = see_one (port_of g) key s k in (one, are_calls g key one.port one.history one.made)

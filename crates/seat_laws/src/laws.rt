@@ -3,13 +3,13 @@
 //! Each function has an empty body: its contract is the statement, and its proof stands in `proofs/laws/`. Nothing calls them and no
 //! proof cites them: they are there to be read. The parameter names the port or the core as it was when it was first shared.
 
-ghost use Rattle.std.specs.Prelude.{◌≡◌, ◌≢◌, ◌∷◌, [], ℕ, Option, Some};
-ghost use Rattle.atomic_table.specs.Table.{State, opening};
+ghost use Rattle.std.specs.Prelude.{◌≡◌, ◌≢◌, ◌∷◌, ◌≤◌, [], ℕ, Option, Some};
+ghost use Rattle.atomic_table.specs.Table.{Splits, State, opening};
 ghost use Rattle.store_core.specs.Port.{port_of};
 ghost use Rattle.store_core.specs.declared.store.Core.{Core as core};
 ghost use Rattle.shared_store.specs.Apart.{IsUnshared};
 ghost use Rattle.shared_store.specs.Over.{AreCallsOf};
-ghost use Rattle.shared_store.specs.Rule.{AreOfTwo, IsKept, first_view, together};
+ghost use Rattle.shared_store.specs.Rule.{AreOfTwo, IsKept, first_view, one_less, split_off, together};
 ghost use Rattle.shared_store.specs.Seen.{GoesOn};
 ghost use Rattle.shared_store.specs.declared.known.Known.{Known};
 ghost use Rattle.seat_laws.specs.OneHistory.{IsSeat, OneBegins, SeeOneHistory};
@@ -48,9 +48,11 @@ pub fn of_two_joined_seats_one_saw_a_beginning<P: LookPort>(_port: &P)
 {}
 
 /// The rule is met by the table that `SharedPort::new` makes: both words are zero, the port is in the slot, and one seat has all parts
-/// and has seen nothing. The premises are what `new` asks.
-pub fn a_new_table_is_kept<P: LookPort>(port: &P)
-    ensures { IsUnshared P.meaning → P.meaning.holds port.now []
-        → IsKept P.meaning port.now
-        (opening (0 ∷ 0 ∷ []) (Some port.now ∷ []) (first_view port.now)) }
+/// and has seen nothing. The premises are what `new` asks. After a seat is split in two the table meets it still.
+pub fn new_and_split_tables_are_kept<P: LookPort>(key: &P)
+    ensures new { IsUnshared P.meaning → P.meaning.holds key.now []
+        → IsKept P.meaning key.now
+        (opening (0 ∷ 0 ∷ []) (Some key.now ∷ []) (first_view key.now)) }
+    ensures split { (i : ℕ) (v : Known P) → 2 ≤ v.parts
+        → Splits (IsKept P.meaning key.now) i v (one_less v) (split_off v) }
 {}
