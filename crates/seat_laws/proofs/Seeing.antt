@@ -21,7 +21,7 @@ use Rattle.shared_store.specs.declared.known.Known.{Known}
 use Rattle.shared_store.proofs.CoreLaws.{are_calls}
 use Rattle.shared_store.proofs.Keeps.{holding}
 use Rattle.shared_store.proofs.Lists.{still_there}
-use Rattle.seat_laws.specs.OneHistory.{IsPort, IsSeat, OneBegins, SeeOneHistory}
+use Rattle.seat_laws.specs.OneHistory.{EachGoesOn, IsPort, IsSeat, OneBegins, SeeOneHistory}
 use Rattle.seat_laws.specs.OneHistory.IsPort.{AtHome, Shown}
 use Rattle.seat_laws.specs.OneHistory.OneBegins.{FirstBegins, SecondBegins}
 
@@ -149,6 +149,16 @@ module _ {C : Type 0} (m : Meaning C) (key : C) where
     owned = owner s k;
     whole = whole_seen s k;
   }
+
+pub history_goes_on : {C : Type 0} (m : Meaning C) (key : C) (s t : State (Option C) (Known C)) (one : SeeOneHistory m key s) (then : SeeOneHistory m key t) → EachGoesOn s t
+    → (later : List Entry) × (then.history ≡ one.history ++ later)
+history_goes_on m key s t one then each =
+    let all = one.whole in
+    let next = each all.0 all.1 all.2 in
+    let rest = then.begins next.0 next.1 next.2 in (
+      next.3 ++ rest.later,
+      rest.begins ∙ ap (λ (l : List Entry). l ++ rest.later) (next.4 ∙ ap (λ (l : List Entry). l ++ next.3) all.3) ∙ append_assoc one.history next.3 rest.later,
+    )
 
 pub of_core : {D : Type 0} (g : Ghosts D) (key : Core D) (s : State (Option (Core D)) (Known (Core D))) → IsKept (port_of g) key s
     → (one : SeeOneHistory (port_of g) key s) × AreCallsOf g key one.history one.port

@@ -37,6 +37,12 @@ pub record SeeOneHistory {C : Type 0} (m : Meaning C) (key : C) (table : State (
   -- Some seat has seen all of it. So it has no call but what seats have seen.
   pub whole : (i : ℕ) × (v : Known C) × IsSeat table i v × (v.seen.entries ≡ history)
 
+-- Between two moments: what each seat has seen, some seat has seen after that, and perhaps more.
+abbrev pub EachGoesOn : {C : Type 0} → State (Option C) (Known C) → State (Option C) (Known C) → Type 0
+EachGoesOn {C} table after =
+    (i : ℕ) (v : Known C) → IsSeat table i v
+    → (j : ℕ) × (w : Known C) × IsSeat after j w × (later : List Entry) × (w.seen.entries ≡ v.seen.entries ++ later)
+
 -- One of two lists of calls is a beginning of the other.
 pub data OneBegins (a b : List Entry) : Type 0 where
   FirstBegins : (later : List Entry) → b ≡ a ++ later → OneBegins a b

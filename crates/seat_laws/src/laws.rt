@@ -3,16 +3,17 @@
 //! Each function has an empty body: its contract is the statement, and its proof stands in `proofs/laws/`. Nothing calls them and no
 //! proof cites them: they are there to be read. The parameter names the port or the core as it was when it was first shared.
 
-ghost use Rattle.std.specs.Prelude.{◌≡◌, ◌≢◌, ◌∷◌, ◌≤◌, [], ℕ, Option, Some};
+ghost use Rattle.std.specs.Prelude.{◌≡◌, ◌≢◌, ◌∷◌, ◌++◌, ◌≤◌, [], ℕ, List, Option, Some};
 ghost use Rattle.atomic_table.specs.Table.{Splits, State, opening};
 ghost use Rattle.store_core.specs.Port.{port_of};
 ghost use Rattle.store_core.specs.declared.store.Core.{Core as core};
+ghost use Rattle.port_history.specs.Entries.{Entry};
 ghost use Rattle.shared_store.specs.Apart.{IsUnshared};
 ghost use Rattle.shared_store.specs.Over.{AreCallsOf};
 ghost use Rattle.shared_store.specs.Rule.{AreOfTwo, IsKept, first_view, one_less, split_off, together};
 ghost use Rattle.shared_store.specs.Seen.{GoesOn};
 ghost use Rattle.shared_store.specs.declared.known.Known.{Known};
-ghost use Rattle.seat_laws.specs.OneHistory.{IsSeat, OneBegins, SeeOneHistory};
+ghost use Rattle.seat_laws.specs.OneHistory.{EachGoesOn, IsSeat, OneBegins, SeeOneHistory};
 
 use disk_model::Device;
 use store_core::Core;
@@ -38,6 +39,14 @@ pub fn seats_of_a_core_see_one_legal_history<D: Device>(key: &Core<D>)
         → IsKept (port_of D.Device.own) key.now table
         → (one : SeeOneHistory (port_of D.Device.own) key.now table)
         × AreCallsOf D.Device.own key.now one.history one.port }
+{}
+
+/// From one moment to a later one: if what each seat had seen is a beginning of what some seat has seen after that, the first history is a
+/// beginning of the second. The premise is what the clauses on calls, `split` and `join` say of the seats.
+pub fn the_one_history_goes_on<P: LookPort>(key: &P)
+    ensures { (table after : State (Option P) (Known P))
+        → (one : SeeOneHistory P.meaning key.now table) (then : SeeOneHistory P.meaning key.now after)
+        → EachGoesOn table after → (later : List Entry) × (then.history ≡ one.history ++ later) }
 {}
 
 /// Of two seats that a program has made one, one had seen a beginning of what the other had seen. The premises are what `join` gives.

@@ -7,5 +7,5 @@ mod laws;
 
 pub use laws::{
     new_and_split_tables_are_kept, of_two_joined_seats_one_saw_a_beginning,
-    seats_of_a_core_see_one_legal_history, seats_see_one_history,
+    seats_of_a_core_see_one_legal_history, seats_see_one_history, the_one_history_goes_on,
 };
